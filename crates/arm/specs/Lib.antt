@@ -1,0 +1,4 @@
+pub mod Turns
+pub mod Poses
+pub mod Swings
+pub mod Lawful
