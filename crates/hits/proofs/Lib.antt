@@ -1,0 +1,5 @@
+pub mod Precedence
+pub mod Putting
+pub mod Ranking
+pub mod Keeping
+pub mod Sifts

@@ -1,0 +1,33 @@
+-- What a call tells its caller: a value, or a refusal by its number and figures.
+use mathlib.Core.List.{List, [], _∷_}
+use Prim.Native.Nat.{ℕ}
+use Rattle.std.specs.declared.result.Result.{Result}
+use Rattle.std.specs.declared.result.Result.the-variants.{Ok, Err}
+use Rattle.index.specs.declared.refusal.Refusal.{Refusal}
+use Rattle.index.specs.declared.refusal.Refusal.the-variants.{Setting, HitCount, Full, NumbersUsedUp, NotStanding, NotJoined, ShortList}
+
+abbrev pub number-of : Refusal → ℕ
+number-of (Setting value) = 1
+number-of HitCount = 2
+number-of Full = 3
+number-of NumbersUsedUp = 4
+number-of (NotStanding number) = 5
+number-of NotJoined = 6
+number-of (ShortList places) = 7
+
+abbrev pub figures-of : Refusal → List ℕ
+figures-of (Setting value) = value ∷ []
+figures-of HitCount = []
+figures-of Full = []
+figures-of NumbersUsedUp = []
+figures-of (NotStanding number) = number ∷ []
+figures-of NotJoined = []
+figures-of (ShortList places) = places ∷ []
+
+pub data Outcome (A : Type 0) : Type 0 where
+  gives : A → Outcome A
+  refuses : ℕ → List ℕ → Outcome A
+
+abbrev pub told : {A : Type 0} → Result A Refusal → Outcome A
+told (Ok value) = gives value
+told (Err refusal) = refuses (number-of refusal) (figures-of refusal)

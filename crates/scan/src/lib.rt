@@ -1,0 +1,3 @@
+// The scan: an index that measures every standing sample.
+pub mod rows;
+pub mod scan;
