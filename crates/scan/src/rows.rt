@@ -1,7 +1,8 @@
 // The rows of a scan: its samples by rising number, from the first row on.
 ghost use mathlib.Core.Path.{_≡_};
 ghost use Prim.Native.Nat.{_<_, _≤_};
-ghost use lib.ListN.{length, take};
+ghost use lib.ListN.{length, set, take};
+ghost use Rattle.std.specs.Places.{At};
 ghost use Rattle.hits.specs.Lists.{over};
 ghost use Rattle.hits.specs.Order.{inside};
 ghost use Rattle.hits.specs.Samples.{Rising, hits};
@@ -38,6 +39,22 @@ pub(crate) fn find<E: Metric>(rows: &[Row<E>], number: u16) -> Option<usize>
     None
 }
 
+// The element of a row.
+pub(crate) fn element_in<E: Metric>(rows: &[Row<E>], at: usize) -> E
+    requires { ⌜ at < length (now rows) ⌝ }
+    ensures { λ r. ⌜ At (λ row. r ≡ row .element) (now (rows .entry)) at ⌝ }
+{
+    rows[at].element
+}
+
+// Writes a row.
+pub(crate) fn write<E: Metric>(rows: &mut [Row<E>], at: usize, row: Row<E>)
+    requires { ⌜ at < length (now rows) ⌝ }
+    ensures { λ _. ⌜ now (rows .exit) ≡ set (now (rows .entry)) at row ⌝ }
+{
+    rows[at] = row;
+}
+
 // Takes one of the first `used` rows out, and moves those behind it one place down.
 pub(crate) fn close_up<E: Metric>(rows: &mut [Row<E>], at: usize, used: usize)
     requires { ⌜ at < used ⌝ ∗ ⌜ used ≤ length (now rows) ⌝ }
@@ -53,12 +70,19 @@ pub(crate) fn gather<E: Metric>(rows: &[Row<E>], q: &E, radius: u32, list: &mut 
     ensures writes { λ _. ⌜ now (list .exit) ≡ over (take (length (now (list .entry))) (inside radius (hits dist (now (q .entry)) (samples (now (rows .entry)))))) (now (list .entry)) ⌝ }
 {
     let mut found = 0;
-    let mut kept = 0;
+    let mut held = 0;
     for row in rows {
         let distance = q.distance(&row.element);
         if distance <= radius {
             found += 1;
-            kept = place(list, kept, Hit { number: row.number, distance });
+            held = place(
+                list,
+                held,
+                Hit {
+                    number: row.number,
+                    distance,
+                },
+            );
         }
     }
     found

@@ -4,7 +4,12 @@ ghost use Prim.Native.Nat.{ℕ, min};
 ghost use lib.ListN.{length};
 ghost use Rattle.index.specs.Meaning.{fresh};
 ghost use Rattle.scan.specs.Scans.{scan-meaning, Scan-sound, scan-lawful, Holds-at};
-use crate::rows::{Row, close_up, find, gather};
+use crate::rows::Row;
+use crate::rows::close_up;
+use crate::rows::element_in;
+use crate::rows::find;
+use crate::rows::gather;
+use crate::rows::write;
 use hits::Hit;
 use index::index::Index;
 use index::refusal::Refusal;
@@ -24,7 +29,11 @@ impl<'a, E: Metric> Scan<'a, E> {
         ensures sound { λ r. ⌜ Scan-sound r ⌝ }
         ensures fresh { λ r. ⌜ scan-meaning r ≡ fresh (min (length (now (rows .entry))) 1024) ⌝ }
     {
-        Scan { rows, used: 0, last: 0 }
+        Scan {
+            rows,
+            used: 0,
+            last: 0,
+        }
     }
 
     fn capacity(&self) -> usize
@@ -58,9 +67,10 @@ pub impl<'a, E: Metric> Index for Scan<'a, E> as ScanIndex {
         if self.last == 65535 {
             return Err(Refusal::NumbersUsedUp);
         }
+        let used = self.used;
         let number = self.last + 1;
-        self.rows[self.used] = Row { number, element: e };
-        self.used += 1;
+        write(self.rows, used, Row { number, element: e });
+        self.used = used + 1;
         self.last = number;
         Ok(number)
     }
@@ -68,8 +78,9 @@ pub impl<'a, E: Metric> Index for Scan<'a, E> as ScanIndex {
     fn drop(&mut self, number: u16) -> Result<(), Refusal> {
         match self.place_of(number) {
             Some(at) => {
-                close_up(self.rows, at, self.used);
-                self.used -= 1;
+                let used = self.used;
+                close_up(self.rows, at, used);
+                self.used = used - 1;
                 Ok(())
             }
             None => Err(Refusal::NotStanding(number)),
@@ -78,7 +89,7 @@ pub impl<'a, E: Metric> Index for Scan<'a, E> as ScanIndex {
 
     fn element(&self, number: u16) -> Result<E, Refusal> {
         match self.place_of(number) {
-            Some(at) => Ok(self.rows[at].element),
+            Some(at) => Ok(element_in(self.rows, at)),
             None => Err(Refusal::NotStanding(number)),
         }
     }

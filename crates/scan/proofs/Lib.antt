@@ -1,0 +1,3 @@
+pub mod Gathering
+pub mod Closing
+pub mod States
