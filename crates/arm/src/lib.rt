@@ -7,6 +7,11 @@ ghost use Rattle.arm.specs.Poses.{pose-distance};
 ghost use Rattle.arm.specs.Lawful.{arm-lawful};
 use metric::Metric;
 
+// Half a turn and a full one.
+const HALF: i32 = 2048;
+
+const FULL: i32 = 4096;
+
 // The angles of the joints, each read as its remainder by 4,096.
 #[derive(Clone, Copy, Debug, PartialEq)]
 pub struct Arm {
@@ -20,10 +25,10 @@ pub fn turn(from: u16, to: u16) -> i32
     ensures bound { λ r. ⌜ natAbs r ≤ 2048 ⌝ }
 {
     let difference = i32::from(to % 4096) - i32::from(from % 4096);
-    if difference > 2048 {
-        difference - 4096
-    } else if difference < -2048 {
-        difference + 4096
+    if difference > HALF {
+        difference - FULL
+    } else if difference < -HALF {
+        difference + FULL
     } else {
         difference
     }

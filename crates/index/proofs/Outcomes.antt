@@ -17,37 +17,32 @@ use Rattle.hits.specs.Lists.{over}
 use Rattle.hits.specs.Samples.{hits}
 use Rattle.hits.proofs.Ranking.{length-hits}
 use Rattle.index.specs.Meaning.{Meaning, added, dropped, element-at}
-use Rattle.index.specs.Outcomes.{Outcome, gives, refuses}
-use Rattle.index.specs.Calls.{bad-count, full, used-up, add-outcome, add-leaves, standing-outcome, drop-outcome, drop-leaves-at, drop-leaves, element-outcome, near-count, near-outcome, near-hits, near-list}
+use Rattle.index.specs.Outcomes.{Outcome, gives, refuses, room-outcome, given-room}
+use Rattle.index.specs.Calls.{bad-count, room-of, add-outcome, add-leaves-at, add-leaves, standing-outcome, drop-outcome, drop-leaves-at, drop-leaves, element-outcome, near-count, near-outcome, near-hits, near-list}
+
+given-not-refused : (n : ℕ) (figures : List ℕ) → _≡_ {A = Outcome Unit} (gives tt) (refuses n figures) → ⊥
+given-not-refused n figures i = let z : _≡_ {A = ℕ} 0 1 = cc in omega arith
+
+-- there is room: not all places are taken, and not all numbers
+module _ (capacity standing last : ℕ) (free : gives tt ≡ room-outcome capacity standing last) where
+  pub room-left : standing ≡ capacity → ⊥
+  room-left e = given-not-refused 3 [] (free ∙ ap (λ x. cond x (refuses 3 []) (cond (eqb last 65535) (refuses 4 []) (gives tt))) (eq-eqb standing capacity e))
+
+  pub numbers-left : last ≡ 65535 → ⊥
+  numbers-left e = neither (eqb standing capacity) (free ∙ ap (λ x. cond (eqb standing capacity) (refuses 3 []) (cond x (refuses 4 []) (gives tt))) (eq-eqb last 65535 e))
+    where
+      neither : (b : Bool) → _≡_ {A = Outcome Unit} (gives tt) (cond b (refuses 3 []) (refuses 4 [])) → ⊥
+      neither true i = given-not-refused 3 [] i
+      neither false i = given-not-refused 4 [] i
 
 module _ {E : Type 0} (m : Meaning E) (e : E) where
-  -- add, where no room is left
-  pub add-full : length (m .standing) ≡ m .capacity → (refuses 3 [] ≡ add-outcome m) × (m ≡ add-leaves m e)
-  add-full i =
-      let t = sym (eq-eqb (length (m .standing)) (m .capacity) i) in
-      (ap (λ x. cond x (refuses 3 []) (cond (used-up m) (refuses 4 []) (gives (m .last + 1)))) t, ap (λ x. cond x m (cond (used-up m) m (added m e))) t)
+  -- add, where there is no room
+  pub add-refused : (n : ℕ) (figures : List ℕ) → refuses n figures ≡ room-of m → (refuses n figures ≡ add-outcome m) × (m ≡ add-leaves m e)
+  add-refused n figures i = (ap (λ o. given-room o (m .last + 1)) i, ap (add-leaves-at m e) i)
 
-  module _ (room : length (m .standing) ≡ m .capacity → ⊥) where
-    free : full m ≡ false
-    free = ne-eqb (length (m .standing)) (m .capacity) room
-
-    -- add, where no number is left
-    pub add-used-up : m .last ≡ 65535 → (refuses 4 [] ≡ add-outcome m) × (m ≡ add-leaves m e)
-    add-used-up i =
-        let t = sym (eq-eqb (m .last) 65535 i) in
-        let f = sym free in (
-          ap (λ x. cond x (refuses 4 []) (gives (m .last + 1))) t ∙ ap (λ x. cond x (refuses 3 []) (cond (used-up m) (refuses 4 []) (gives (m .last + 1)))) f,
-          ap (λ x. cond x m (added m e)) t ∙ ap (λ x. cond x m (cond (used-up m) m (added m e))) f,
-        )
-
-    -- add, where it is accepted
-    pub add-done : (m .last ≡ 65535 → ⊥) → (gives (m .last + 1) ≡ add-outcome m) × (added m e ≡ add-leaves m e)
-    add-done i =
-        let t = sym (ne-eqb (m .last) 65535 i) in
-        let f = sym free in (
-          ap (λ x. cond x (refuses 4 []) (gives (m .last + 1))) t ∙ ap (λ x. cond x (refuses 3 []) (cond (used-up m) (refuses 4 []) (gives (m .last + 1)))) f,
-          ap (λ x. cond x m (added m e)) t ∙ ap (λ x. cond x m (cond (used-up m) m (added m e))) f,
-        )
+  -- add, where there is
+  pub add-done : gives tt ≡ room-of m → (gives (m .last + 1) ≡ add-outcome m) × (added m e ≡ add-leaves m e)
+  add-done i = (ap (λ o. given-room o (m .last + 1)) i, ap (add-leaves-at m e) i)
 
 module _ {E : Type 0} (m : Meaning E) (n : ℕ) where
   -- a call for a sample that does not stand

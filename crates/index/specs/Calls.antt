@@ -11,26 +11,26 @@ use Rattle.hits.specs.Order.{inside}
 use Rattle.hits.specs.Lists.{over}
 use Rattle.hits.specs.Samples.{hits}
 use Rattle.index.specs.Meaning.{Meaning, added, dropped, element-at}
-use Rattle.index.specs.Outcomes.{Outcome, gives, refuses}
+use Rattle.index.specs.Outcomes.{Outcome, gives, refuses, room-outcome, given-room}
 
 -- near refuses a count of 0 or above the list's length
 abbrev pub bad-count : {X : Type 0} → ℕ → List X → Bool
 bad-count k list = eqb k 0 || ltb (length list) k
 
 module _ {E : Type 0} where
-  -- as many stand as the capacity allows
-  abbrev pub full : Meaning E → Bool
-  full m = eqb (length (m .standing)) (m .capacity)
-
-  -- no number is left to give
-  abbrev pub used-up : Meaning E → Bool
-  used-up m = eqb (m .last) 65535
+  -- whether one more sample can be filed
+  abbrev pub room-of : Meaning E → Outcome Unit
+  room-of m = room-outcome (m .capacity) (length (m .standing)) (m .last)
 
   abbrev pub add-outcome : Meaning E → Outcome ℕ
-  add-outcome m = cond (full m) (refuses 3 []) (cond (used-up m) (refuses 4 []) (gives (m .last + 1)))
+  add-outcome m = given-room (room-of m) (m .last + 1)
+
+  abbrev pub add-leaves-at : Meaning E → E → Outcome Unit → Meaning E
+  add-leaves-at m e (gives u) = added m e
+  add-leaves-at m e (refuses n figures) = m
 
   abbrev pub add-leaves : Meaning E → E → Meaning E
-  add-leaves m e = cond (full m) m (cond (used-up m) m (added m e))
+  add-leaves m e = add-leaves-at m e (room-of m)
 
   -- the outcome of a call that asks for a standing sample
   abbrev pub standing-outcome : {A : Type 0} → (E → A) → ℕ → Option E → Outcome A

@@ -1,6 +1,8 @@
 -- What a call tells its caller: a value, or a refusal by its number and figures.
+use mathlib.Core.Bool.{cond}
 use mathlib.Core.List.{List, [], _∷_}
 use Prim.Native.Nat.{ℕ}
+use lib.Dec.{eqb}
 use Rattle.std.specs.declared.result.Result.{Result}
 use Rattle.std.specs.declared.result.Result.the-variants.{Ok, Err}
 use Rattle.index.specs.declared.refusal.Refusal.{Refusal}
@@ -31,3 +33,12 @@ pub data Outcome (A : Type 0) : Type 0 where
 abbrev pub told : {A : Type 0} → Result A Refusal → Outcome A
 told (Ok value) = gives value
 told (Err refusal) = refuses (number-of refusal) (figures-of refusal)
+
+-- whether one more sample can be filed: room comes before numbers
+abbrev pub room-outcome : ℕ → ℕ → ℕ → Outcome Unit
+room-outcome capacity standing last = cond (eqb standing capacity) (refuses 3 []) (cond (eqb last 65535) (refuses 4 []) (gives tt))
+
+-- what a call gives once there is room
+abbrev pub given-room : {A : Type 0} → Outcome Unit → A → Outcome A
+given-room (gives u) value = gives value
+given-room (refuses n figures) value = refuses n figures

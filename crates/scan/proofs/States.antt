@@ -18,6 +18,8 @@ use Rattle.hits.proofs.Putting.{all-put}
 use Rattle.hits.proofs.Keeping.{inside-all}
 use Rattle.hits.proofs.Ranking.{hits-ranked, length-hits}
 use Rattle.index.specs.Meaning.{Meaning, added, dropped, without, element-at}
+use Rattle.index.specs.Outcomes.{room-outcome}
+use Rattle.index.specs.Calls.{room-of}
 use Rattle.index.proofs.Standing.{rising-push, rising-wider, rising-without}
 use Rattle.scan.specs.declared.rows.Row.{Row}
 use Rattle.scan.specs.declared.scan.Scan.{Scan}
@@ -29,6 +31,10 @@ module _ {E : Type 0} (s : Scan E) (o : Scan-sound s) where
   -- as many samples stand as rows are in use
   pub standing-count : length (scan-meaning s .standing) ≡ s .used
   standing-count = simp (length-map, length-take) (omega (arith, o .used-bound))
+
+  -- whether one more sample can be filed
+  pub room-is : (capacity : ℕ) → capacity ≡ scan-meaning s .capacity → room-outcome capacity (s .used) (s .last) ≡ room-of (scan-meaning s)
+  room-is capacity e = ap (λ k. room-outcome k (s .used) (s .last)) e ∙ ap (λ n. room-outcome (scan-meaning s .capacity) n (s .last)) (sym standing-count)
 
   rows-rise : Rising 0 65535 (scan-meaning s .standing)
   rows-rise = rising-wider 0 (s .last) 0 65535 (scan-meaning s .standing) (omega arith) (o .last-bound) (o .rising)

@@ -13,6 +13,7 @@ use crate::rows::write;
 use hits::Hit;
 use index::index::Index;
 use index::refusal::Refusal;
+use index::refusal::room;
 use metric::Metric;
 
 // The first `used` rows hold the standing samples by rising number.
@@ -61,13 +62,8 @@ pub impl<'a, E: Metric> Index for Scan<'a, E> as ScanIndex {
     ghost lawful = { scan-lawful };
 
     fn add(&mut self, e: E) -> Result<u16, Refusal> {
-        if self.used == self.capacity() {
-            return Err(Refusal::Full);
-        }
-        if self.last == 65535 {
-            return Err(Refusal::NumbersUsedUp);
-        }
         let used = self.used;
+        room(self.capacity(), used, self.last)?;
         let number = self.last + 1;
         write(self.rows, used, Row { number, element: e });
         self.used = used + 1;
