@@ -1,0 +1,4 @@
+pub mod Circles
+pub mod Floors
+pub mod Reversal
+pub mod Sweeps
