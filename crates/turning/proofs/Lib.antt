@@ -2,3 +2,4 @@ pub mod Circles
 pub mod Floors
 pub mod Reversal
 pub mod Sweeps
+pub mod Machine

@@ -44,7 +44,7 @@ joint-back a b (suc n) t s l =
     ∙ meets-way (a % 4096) (b % 4096) (turn-of a b) _ _ (turn-leads a b) (turned-back (turn-of a b) (suc n) t (omega arith) l)
 
 -- a list made joint by joint
-joints-same : {X : Type 0} (f g : ℕ → X) → ((i : ℕ) → i < 6 → f i ≡ g i) → map f joints ≡ map g joints
+pub joints-same : {X : Type 0} (f g : ℕ → X) → ((i : ℕ) → i < 6 → f i ≡ g i) → map f joints ≡ map g joints
 joints-same f g same = same-lists (map f joints) (map g joints) refl
     (λ k d h. getD-map-counting f 0 6 k k d h (omega arith) ∙ same k h ∙ sym (getD-map-counting g 0 6 k k d h (omega arith)))
 
