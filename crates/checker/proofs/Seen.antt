@@ -82,6 +82,14 @@ module _ (p : ℕ → Bool) where
       let next : every p (counting 0 (n + 1)) ≡ true = below-more n (below-every n (λ i h. each i (omega arith))) (each n (omega arith)) in
       rw add-one at next
 
+  -- all are seen
+  pub below-all : (n i : ℕ) → n ≤ i → every p (counting 0 i) ≡ true → every p (counting 0 n) ≡ true
+  below-all n i h before = below-every n (λ k l. below-each i k before (omega arith))
+
+  -- one meets the test
+  pub below-found : (n i : ℕ) → i < n → p i ≡ true → some p (counting 0 n) ≡ true
+  below-found n i h here = some-is p (counting 0 n) ∙ ap not (seen-fault (λ k. not (p k)) (counting 0 n) i 0 (omega (arith, length-counting 0 n)) (ap (λ k. not (p k)) (getD-counting 0 n i 0 h ∙ omega arith) ∙ ap not here))
+
 -- two tests that agree on each element
 pub every-same : {X : Type 0} (p q : X → Bool) → ((x : X) → p x ≡ q x) → (xs : List X) → every p xs ≡ every q xs
 every-same p q same [] = refl
@@ -93,3 +101,7 @@ every-weaker p q weaker [] h = refl
 every-weaker p q weaker (x ∷ xs) h =
     let parts = and-parts (p x) (every p xs) h in
     ap (λ t. t && every q xs) (weaker x (parts .0)) ∙ every-weaker p q weaker xs (parts .1)
+
+-- all are seen, and none meets the test
+pub below-none : (p : ℕ → Bool) (n i : ℕ) → n ≤ i → every (λ k. not (p k)) (counting 0 i) ≡ true → some p (counting 0 n) ≡ false
+below-none p n i h before = some-is p (counting 0 n) ∙ ap not (below-all (λ k. not (p k)) n i h before)

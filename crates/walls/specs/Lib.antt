@@ -1,0 +1,4 @@
+pub mod Arcs
+pub mod Walls
+pub mod Passes
+pub mod Lawful
