@@ -1,4 +1,2 @@
 pub mod Arcs
 pub mod Walls
-pub mod Passes
-pub mod Lawful

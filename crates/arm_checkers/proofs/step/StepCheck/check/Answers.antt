@@ -1,7 +1,7 @@
 use mathlib.Core.Path.{sym, ap, _∙_}
 use Rattle.turning.proofs.Poses.{pose-more, pose-fault, pose-all}
-use Rattle.walls.specs.Passes.{outside, step-passes}
-use Rattle.walls.proofs.step.StepCheck.check.Needs as need
+use Rattle.arm_checkers.specs.Passes.{outside, step-passes}
+use Rattle.arm_checkers.proofs.step.StepCheck.check.Needs as need
 
 pub returns-then-not-is-outside : need.returns-then-not-is-outside
 unfolding step-passes

@@ -1,9 +1,9 @@
 use mathlib.Core.Path.{sym, ap, _∙_}
 use Rattle.checker.specs.Every.{every}
 use Rattle.checker.proofs.Seen.{seen-more, seen-all, seen-fault}
 use Rattle.walls.specs.Walls.{apart}
-use Rattle.walls.specs.Passes.{box-passes}
-use Rattle.walls.proofs.sweep.BoxCheck.check.Needs as need
+use Rattle.arm_checkers.specs.Passes.{box-passes}
+use Rattle.arm_checkers.proofs.sweep.BoxCheck.check.Needs as need
 
 pub returns-then-not-is-apart : need.returns-then-not-is-apart
 unfolding box-passes

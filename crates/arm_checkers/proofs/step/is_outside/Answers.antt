@@ -1,9 +1,9 @@
 use mathlib.Core.Path.{sym, ap}
 use mathlib.Core.Bool.{not}
 use Rattle.checker.proofs.Seen.{seen-more, seen-all, seen-fault}
 use Rattle.walls.specs.Walls.{in-wall}
-use Rattle.walls.specs.Passes.{outside}
-use Rattle.walls.proofs.step.is_outside.Needs as need
+use Rattle.arm_checkers.specs.Passes.{outside}
+use Rattle.arm_checkers.proofs.step.is_outside.Needs as need
 
 pub returns-then-contains : need.returns-then-contains
 unfolding outside

@@ -3,8 +3,8 @@ use mathlib.Core.Path.{_≡_}
 use lib.ListN.{take}
 use Rattle.checker.specs.Every.{every}
 use Rattle.turning.specs.Motions.{motion}
-use Rattle.walls.specs.Passes.{outside}
-use Rattle.walls.proofs.step.StepCheck.check.Given as given
+use Rattle.arm_checkers.specs.Passes.{outside}
+use Rattle.arm_checkers.proofs.step.StepCheck.check.Given as given
 
 -- each pose so far is outside the walls
 abbrev pub Inv-loop-t : given.InvT-loop-t

@@ -1,13 +1,13 @@
 // Step: a pair passes if no pose of the motion between them is in a wall.
 ghost use denote.Ref.{now};
 ghost use mathlib.Core.Path.{_≡_};
-ghost use Rattle.walls.specs.Passes.{outside, step-passes};
-ghost use Rattle.walls.specs.Lawful.{step-symmetric};
-use crate::wall::Wall;
+ghost use Rattle.arm_checkers.specs.Passes.{outside, step-passes};
+ghost use Rattle.arm_checkers.specs.Lawful.{step-symmetric};
 use arm::Arm;
 use checker::Checker;
 use motion::pose;
 use motion::steps;
+use walls::Wall;
 
 #[derive(Clone, Copy)]
 pub struct StepChecker<'w> {

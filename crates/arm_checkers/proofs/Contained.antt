@@ -14,10 +14,10 @@ use Rattle.checker.proofs.Seen.{every-map, every-weaker, below-each, below-ever
 use Rattle.turning.specs.Arcs.{within, meeting, swept-from}
 use Rattle.turning.specs.Motions.{joints, stands, pose-at, steps-of, motion}
 use Rattle.turning.proofs.Sweeps.{shared-meet, joint-swept}
 use Rattle.walls.specs.declared.wall.Wall.{Wall}
 use Rattle.walls.specs.Arcs.{in-arc, meet}
 use Rattle.walls.specs.Walls.{angle-at, arc-at, joint-in, in-wall, joint-apart, apart}
-use Rattle.walls.specs.Passes.{outside, step-passes, swept, swept-box, box-passes, Box-within-step}
+use Rattle.arm_checkers.specs.Passes.{outside, step-passes, swept, swept-box, box-passes, Box-within-step}
 
 module _ (w : Wall) (e f : Arm) (n t : ℕ) (low : t ≤ n) where
   -- an arc that has a joint's angle on the way meets the arc that the joint sweeps

@@ -1,13 +1,13 @@
 // Both checkers over the same walls.
 ghost use mathlib.Core.Path.{_≡_};
-ghost use Rattle.walls.specs.Passes.{step-passes, box-passes, Box-within-step};
+ghost use Rattle.arm_checkers.specs.Passes.{step-passes, box-passes, Box-within-step};
 use crate::step::StepCheck;
 use crate::step::StepChecker;
 use crate::sweep::BoxCheck;
 use crate::sweep::BoxChecker;
-use crate::wall::Wall;
 use arm::Arm;
 use checker::Checker;
+use walls::Wall;
 
 // Whether Step passes a pair, and whether Box does. Box is asked first: Step passes all that Box
 // passes, and then its longer look is spared.

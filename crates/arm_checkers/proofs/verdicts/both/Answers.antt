@@ -1,6 +1,6 @@
 use mathlib.Core.Path.{sym}
-use Rattle.walls.proofs.Contained.{box-within-step}
-use Rattle.walls.proofs.verdicts.both.Needs as need
+use Rattle.arm_checkers.proofs.Contained.{box-within-step}
+use Rattle.arm_checkers.proofs.verdicts.both.Needs as need
 
 pub returns-then-check : need.returns-then-check
 returns-then-check c = record {

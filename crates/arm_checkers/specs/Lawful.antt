@@ -10,10 +10,10 @@ use Rattle.checker.proofs.Seen.{every-reverse}
 use Rattle.turning.specs.Motions.{joints, motion}
 use Rattle.turning.proofs.Reversal.{joints-same, motion-back}
 use Rattle.turning.proofs.Sweeps.{swept-back}
 use Rattle.walls.specs.declared.arc.Arc.{Arc}
 use Rattle.walls.specs.declared.wall.Wall.{Wall}
 use Rattle.walls.specs.Walls.{angle-at, apart}
-use Rattle.walls.specs.Passes.{outside, step-passes, swept, swept-box, box-passes}
+use Rattle.arm_checkers.specs.Passes.{outside, step-passes, swept, swept-box, box-passes}
 
 pub step-symmetric : (walls : List Wall) (e f : Arm) → step-passes walls e f ≡ step-passes walls f e
 unfolding step-passes

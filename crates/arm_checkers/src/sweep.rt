@@ -2,13 +2,13 @@
 // sweeps between them.
 ghost use denote.Ref.{now};
 ghost use mathlib.Core.Path.{_≡_};
-ghost use Rattle.walls.specs.Passes.{swept, swept-box, box-passes};
-ghost use Rattle.walls.specs.Lawful.{box-symmetric};
-use crate::arc::Arc;
-use crate::wall::Wall;
+ghost use Rattle.arm_checkers.specs.Passes.{swept, swept-box, box-passes};
+ghost use Rattle.arm_checkers.specs.Lawful.{box-symmetric};
 use arm::Arm;
 use arm::turn;
 use checker::Checker;
+use walls::Arc;
+use walls::Wall;
 
 #[derive(Clone, Copy)]
 pub struct BoxChecker<'w> {

@@ -8,9 +8,9 @@ use mir.Val.{toZ, ofZ}
 use Rattle.std.proofs.shelf.Signed.{toZ-ofZ}
 use Rattle.arm.specs.Turns.{turn-of, swing-of}
 use Rattle.turning.specs.Arcs.{swept-from}
-use Rattle.walls.specs.Passes.{swept}
-use Rattle.walls.proofs.sweep.swept_arc.Needs as need
-use Rattle.walls.proofs.sweep.swept_arc.Needs.{then-turn-ge0, else-turn-ge0}
+use Rattle.arm_checkers.specs.Passes.{swept}
+use Rattle.arm_checkers.proofs.sweep.swept_arc.Needs as need
+use Rattle.arm_checkers.proofs.sweep.swept_arc.Needs.{then-turn-ge0, else-turn-ge0}
 
 turning : (c : need.After-unsigned-abs) → toZ w32 (ofZ w32 (c .turn-turn .result)) ≡ turn-of (c .args .from) (c .args .to)
 turning c = toZ-ofZ w32 _ (record { sfits = c .turn-turn .ok }) ∙ c .turn-turn .ensures .value
