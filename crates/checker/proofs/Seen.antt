@@ -95,6 +95,10 @@ pub every-same : {X : Type 0} (p q : X → Bool) → ((x : X) → p x ≡ q x) �
 every-same p q same [] = refl
 every-same p q same (x ∷ xs) = ap (λ t. t && every p xs) (same x) ∙ ap (λ t. q x && t) (every-same p q same xs)
 
+pub some-same : {X : Type 0} (p q : X → Bool) → ((x : X) → p x ≡ q x) → (xs : List X) → some p xs ≡ some q xs
+some-same p q same [] = refl
+some-same p q same (x ∷ xs) = ap (λ t. t || some p xs) (same x) ∙ ap (λ t. q x || t) (some-same p q same xs)
+
 -- a weaker test
 pub every-weaker : {X : Type 0} (p q : X → Bool) → ((x : X) → p x ≡ true → q x ≡ true) → (xs : List X) → every p xs ≡ true → every q xs ≡ true
 every-weaker p q weaker [] h = refl
