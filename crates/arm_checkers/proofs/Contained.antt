@@ -1,7 +1,7 @@
 -- Step passes all that Box passes. Assumes nothing.
 use mathlib.Core.Path.{_≡_, refl, sym, ap, _∙_}
 use mathlib.Core.Bool.{Bool, true, false, not}
-use mathlib.Core.List.{List, map}
+use mathlib.Core.List.{List}
 use Prim.Native.Nat.{ℕ, _+_, _≤_, _<_}
 use native.Mathlib.Omega.{arith}
 use Rattle.std.specs.Iters.{counting}
@@ -9,10 +9,9 @@ use Rattle.std.proofs.shelf.Counted.{getD-map-counting}
 use Rattle.std.proofs.shelf.Tests.{both-ways}
 use Rattle.arm.specs.declared.Arm.{Arm}
 use Rattle.arm.specs.Turns.{swing-of}
-use Rattle.checker.specs.Every.{every}
 use Rattle.checker.proofs.Seen.{every-map, every-weaker, below-each, below-every, below-none}
-use Rattle.turning.specs.Arcs.{within, meeting, swept-from}
-use Rattle.turning.specs.Motions.{joints, stands, pose-at, steps-of, motion}
+use Rattle.turning.specs.Arcs.{swept-from}
+use Rattle.turning.specs.Motions.{stands, pose-at, steps-of, motion}
 use Rattle.turning.proofs.Sweeps.{shared-meet, joint-swept}
 use Rattle.walls.specs.declared.wall.Wall.{Wall}
 use Rattle.walls.specs.Arcs.{in-arc, meet}

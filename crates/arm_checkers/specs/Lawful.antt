@@ -1,13 +1,12 @@
 -- Step and Box pass a pair both ways round or not at all. Assumes nothing.
 use mathlib.Core.Path.{_≡_, ap, sym, _∙_}
-use mathlib.Core.List.{List, map}
+use mathlib.Core.List.{List}
 use Prim.Native.Nat.{ℕ}
 use Rattle.arm.specs.declared.Arm.{Arm}
-use Rattle.arm.specs.Turns.{swing-of}
 use Rattle.arm.specs.Swings.{swing-symmetric}
 use Rattle.checker.specs.Every.{every}
 use Rattle.checker.proofs.Seen.{every-reverse}
-use Rattle.turning.specs.Motions.{joints, motion}
+use Rattle.turning.specs.Motions.{motion}
 use Rattle.turning.proofs.Reversal.{joints-same, motion-back}
 use Rattle.turning.proofs.Sweeps.{swept-back}
 use Rattle.walls.specs.declared.arc.Arc.{Arc}

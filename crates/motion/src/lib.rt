@@ -3,7 +3,7 @@ ghost use mathlib.Core.List.{reverse};
 ghost use mathlib.Core.Path.{_≡_};
 ghost use Prim.Native.Nat.{_*_, _<_, _≤_};
 ghost use lib.IntN.{natAbs};
-ghost use Rattle.turning.specs.Circle.{floor};
+ghost use Rattle.turning.specs.Circle.{floor, Rounds-down};
 ghost use Rattle.turning.specs.Motions.{turned, joint-at, pose-at, steps-of, motion};
 use arm::Arm;
 use arm::swing;
@@ -30,7 +30,8 @@ pub fn steps(from: &Arm, to: &Arm) -> u16
 // The quotient, rounded down, also below zero.
 fn floor_div(z: i32, n: u16) -> i32
     requires { ⌜ 0 < n ⌝ }
-    ensures { λ r. ⌜ r ≡ floor z n ⌝ }
+    ensures value { λ r. ⌜ r ≡ floor z n ⌝ }
+    ensures down { λ r. ⌜ Rounds-down z n r ⌝ }
 {
     z.div_euclid(i32::from(n))
 }

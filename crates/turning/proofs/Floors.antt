@@ -1,11 +1,11 @@
 -- How much of a turn is done at a step, on the way and on the way back. Assumes nothing.
-use mathlib.Core.Path.{_≡_, refl, sym, ap, _∙_}
-use Prim.Native.Nat.{ℕ, zero, suc, _+_, _-_, _*_, _/_, _%_, _≤_, _<_}
-use native.Mathlib.Nat.{div-add-mod', mod-lt, add-mul, mul-add, zero-mul, zero-div, lt-of-mul-lt-mul-right, div-eq-of-eq-mul-left, mul-le-mul-left, mul-comm, div-le-of-le-mul, div-lt-iff-lt-mul}
+use mathlib.Core.Path.{_≡_, refl, sym, ap, subst, _∙_}
+use Prim.Native.Nat.{ℕ, zero, suc, _+_, _-_, _*_, _/_, _≤_, _<_}
+use native.Mathlib.Nat.{div-add-mod', mod-lt, add-mul, suc-mul, mul-add, zero-mul, zero-div, lt-of-mul-lt-mul-right, div-eq-of-eq-mul-left, mul-le-mul-left, mul-comm, div-le-of-le-mul, div-lt-iff-lt-mul}
 use native.Mathlib.Omega.{arith}
-use lib.IntN.{ℤ, pos, negsuc, _+ℤ_, _-ℤ_, _*ℤ_, negℤ}
+use lib.IntN.{ℤ, pos, negsuc, _+ℤ_, _*ℤ_, negℤ}
 use Rattle.std.proofs.shelf.Signed.{ints}
-use Rattle.turning.specs.Circle.{floor}
+use Rattle.turning.specs.Circle.{floor, Rounds-down}
 use Rattle.turning.specs.Motions.{turned}
 
 -- the quotients of two numbers that together are k times n
@@ -43,6 +43,24 @@ floor-back (negsuc q) n t h l =
     let e : suc q * (n - t) + suc q * t ≡ suc q * n = omega (arith, both-parts (suc q) t n l) in
     let f = floor-neg (suc q * t) (suc q * (n - t)) (suc q) n h e in
     omega (arith, ints)
+
+floor-down : (z : ℤ) (n : ℕ) → 0 < n → Rounds-down z n (floor z n)
+unfolding floor
+floor-down (pos a) n h =
+    let whole = div-add-mod' a n in
+    let rest = mod-lt a h in
+    let next = add-mul (a / n) 1 n in
+    (omega (arith, ints), omega (arith, ints))
+floor-down (negsuc a) n h =
+    let whole = div-add-mod' a n in
+    let rest = mod-lt a h in
+    let next = suc-mul (a / n) n in
+    let above : negsuc (a / n) +ℤ pos 1 ≡ negℤ (pos (a / n)) = omega (arith, ints) in
+    let times : (negsuc (a / n) +ℤ pos 1) *ℤ pos n ≡ negℤ (pos (a / n * n)) = ap (λ q. q *ℤ pos n) above ∙ neg-times (a / n) n in
+    (omega (arith, ints), rw times (omega (arith, ints)))
+
+pub rounds-down : (z q : ℤ) (n : ℕ) → 0 < n → q ≡ floor z n → Rounds-down z n q
+rounds-down z q n h e = subst (Rounds-down z n) (sym e) (floor-down z n h)
 
 -- what the way back has done at the step before the end that the way is after the start, and the whole turn
 pub turned-back : (d : ℤ) (n t : ℕ) → 0 < n → t ≤ n → turned (negℤ d) n (n - t) +ℤ d ≡ turned d n t

@@ -1,6 +1,6 @@
 -- The same numbers as a machine computes them, within 32 bits. Assumes nothing.
-use mathlib.Core.Path.{_≡_, refl, sym, ap, _∙_}
-use Prim.Native.Nat.{ℕ, zero, suc, _+_, _-_, _*_, _/_, _%_, _^_, _≤_, _<_, max}
+use mathlib.Core.Path.{_≡_, refl, _∙_}
+use Prim.Native.Nat.{ℕ, zero, suc, _+_, _-_, _*_, _≤_, _<_, max}
 use native.Mathlib.Nat.{mul-le-mul, div-le-self, max-zero}
 use native.Mathlib.Omega.{arith}
 use lib.IntN.{ℤ, pos, negsuc, _+ℤ_, _*ℤ_, negℤ, natAbs}
@@ -9,7 +9,7 @@ use mir.Val.{SFits, toZ, ofZ}
 use Rattle.std.specs.Numbers.{divEuclid, remEuclid}
 use Rattle.std.proofs.shelf.Signed.{ints, toZ-ofZ}
 use Rattle.turning.specs.Circle.{floor, wrap}
-use Rattle.turning.specs.Motions.{turned, greatest}
+use Rattle.turning.specs.Motions.{turned}
 
 pub floor-euclid : (z : ℤ) (n : ℕ) → divEuclid z (pos n) ≡ floor z n
 unfolding floor

@@ -1,16 +1,16 @@
 -- A joint stays in the arc that it sweeps, and arcs that share an angle meet. Assumes nothing.
-use mathlib.Core.Path.{_≡_, refl, sym, ap, _∙_}
+use mathlib.Core.Path.{_≡_, sym, ap, _∙_}
 use mathlib.Core.Logic.{_⊎_, inl, inr, ⊎-elim}
-use mathlib.Core.Bool.{Bool, true, false, cond, _||_, or-true}
+use mathlib.Core.Bool.{true, cond, _||_, or-true}
 use Prim.Native.Nat.{ℕ, zero, suc, _+_, _-_, _%_, _≤_, _<_}
 use native.Mathlib.Omega.{arith}
 use lib.Dec.{leb}
-use lib.IntN.{ℤ, pos, negsuc, _+ℤ_, _-ℤ_, negℤ, natAbs}
+use lib.IntN.{ℤ, pos, negsuc, _+ℤ_, negℤ, natAbs}
 use lib.Signed.{leZ}
 use Rattle.std.proofs.shelf.Signed.{ints}
-use Rattle.std.proofs.shelf.Tests.{leb-true, leb-false, le-leb, cases-lt}
+use Rattle.std.proofs.shelf.Tests.{leb-true, le-leb, cases-lt}
 use Rattle.arm.specs.Turns.{turn-of, swing-of}
-use Rattle.arm.specs.Swings.{swing-symmetric, swing-bound}
+use Rattle.arm.specs.Swings.{swing-bound}
 use Rattle.turning.specs.Circle.{wrap, ahead}
 use Rattle.turning.specs.Motions.{turned, joint-at}
 use Rattle.turning.specs.Arcs.{within, meeting, swept-from}

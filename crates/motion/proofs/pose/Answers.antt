@@ -1,4 +1,3 @@
-use borrow.Author.Needs.{needs}
 use Rattle.turning.specs.Motions.{pose-at}
 use Rattle.motion.proofs.pose.Needs as need
 

@@ -1,4 +1,3 @@
-use mathlib.Core.Path.{_≡_, ap, sym, _∙_}
 use native.Mathlib.Omega.{arith}
 use Rattle.turning.specs.Motions.{steps-of}
 use Rattle.turning.proofs.Machine.{greatest-six}

@@ -1,4 +1,4 @@
-use mathlib.Core.Path.{sym, ap, _∙_}
+use mathlib.Core.Path.{sym}
 use native.Mathlib.Omega.{arith}
 use Rattle.turning.proofs.Poses.{pose-more, pose-fault, pose-all}
 use Rattle.arm_checkers.specs.Passes.{outside, step-passes}
