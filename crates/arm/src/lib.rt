@@ -35,7 +35,7 @@ pub fn turn(from: u16, to: u16) -> i32
 }
 
 // The size of the turn from one angle to another.
-fn swing(from: u16, to: u16) -> u32
+pub fn swing(from: u16, to: u16) -> u32
     ensures value { λ r. ⌜ r ≡ swing-of from to ⌝ }
     ensures bound { λ r. ⌜ r ≤ 2048 ⌝ }
 {

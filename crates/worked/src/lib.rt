@@ -9,5 +9,5 @@ pub fn values_hold() -> usize
     ensures all { λ _. ⌜ Each-holds values ⌝ }
     ensures count { λ r. ⌜ r ≡ length values ⌝ }
 {
-    5
+    10
 }

@@ -1,0 +1,3 @@
+pub mod Circle
+pub mod Motions
+pub mod Arcs
