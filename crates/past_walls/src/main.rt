@@ -45,35 +45,33 @@ fn print_motion(rt: LibcRuntime, from: &Arm, to: &Arm) -> io::Result<()> {
     Ok(())
 }
 
+fn print_trip(rt: LibcRuntime, walls: &[Wall], from: &Arm, to: &Arm) -> io::Result<()> {
+    let (step, swept) = both(walls, from, to);
+    let [a, b, ..] = from.angles;
+    let [c, d, ..] = to.angles;
+    println!(
+        rt,
+        "from {a} {b} to {c} {d}: Step {}, Box {}",
+        word(step),
+        word(swept)
+    )
+}
+
 fn print_arms(rt: LibcRuntime) -> io::Result<()> {
     let walls = [
         wall_of(arc(8, 4), arc(0, 4095)),
         wall_of(arc(2, 0), arc(4094, 0)),
         wall_of(arc(3000, 100), arc(4090, 10)),
     ];
-    let trips = [
-        (pose_of(0, 0), pose_of(2, 4093)),
-        (pose_of(0, 0), pose_of(4, 0)),
-        (pose_of(4, 0), pose_of(20, 0)),
-        (pose_of(20, 0), pose_of(2068, 0)),
-        (pose_of(4116, 0), pose_of(20, 4096)),
-        (pose_of(2900, 3), pose_of(3200, 3)),
-        (pose_of(2900, 5), pose_of(3200, 5)),
-        (pose_of(2900, 4050), pose_of(3200, 50)),
-    ];
-    for (from, to) in &trips {
-        let (step, swept) = both(&walls, from, to);
-        let [a, b, ..] = from.angles;
-        let [c, d, ..] = to.angles;
-        println!(
-            rt,
-            "from {a} {b} to {c} {d}: Step {}, Box {}",
-            word(step),
-            word(swept)
-        )?;
-    }
-    println!(rt, "from 0 0 to 2 4093:")?;
-    print_motion(rt, &trips[0].0, &trips[0].1)
+    print_trip(rt, &walls, &pose_of(0, 0), &pose_of(2, 4093))?;
+    print_motion(rt, &pose_of(0, 0), &pose_of(2, 4093))?;
+    print_trip(rt, &walls, &pose_of(0, 0), &pose_of(4, 0))?;
+    print_trip(rt, &walls, &pose_of(4, 0), &pose_of(20, 0))?;
+    print_trip(rt, &walls, &pose_of(20, 0), &pose_of(2068, 0))?;
+    print_trip(rt, &walls, &pose_of(4116, 0), &pose_of(20, 4096))?;
+    print_trip(rt, &walls, &pose_of(2900, 3), &pose_of(3200, 3))?;
+    print_trip(rt, &walls, &pose_of(2900, 5), &pose_of(3200, 5))?;
+    print_trip(rt, &walls, &pose_of(2900, 4050), &pose_of(3200, 50))
 }
 
 fn print_cards(rt: LibcRuntime) -> io::Result<()> {
