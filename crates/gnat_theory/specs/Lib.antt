@@ -1,0 +1,9 @@
+pub mod Tree
+pub mod Filing
+pub mod Splitting
+pub mod Dropping
+pub mod Searching
+pub mod Pending
+pub mod Ranges
+pub mod Shapes
+pub mod Shuffles

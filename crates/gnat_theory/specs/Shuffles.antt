@@ -1,0 +1,8 @@
+-- Lists of the same things, each as often, in any order.
+use mathlib.Core.List.{List, [], _∷_}
+
+pub data Shuffle (X : Type 0) : List X → List X → Type 0 where
+  nothing : Shuffle X [] []
+  after : (x : X) (xs ys : List X) → Shuffle X xs ys → Shuffle X (x ∷ xs) (x ∷ ys)
+  swapped : (x y : X) (xs : List X) → Shuffle X (x ∷ (y ∷ xs)) (y ∷ (x ∷ xs))
+  in-turn : (xs ys zs : List X) → Shuffle X xs ys → Shuffle X ys zs → Shuffle X xs zs

@@ -1,0 +1,1 @@
+// The tree of an index: theorems on filing, dropping and searching.
