@@ -1,1 +1,5 @@
 pub mod Shuffling
+pub mod Ordering
+pub mod Wanting
+pub mod Striking
+
