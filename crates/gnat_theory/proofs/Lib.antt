@@ -2,4 +2,9 @@ pub mod Shuffling
 pub mod Ordering
 pub mod Wanting
 pub mod Striking
+pub mod Gathering
+pub mod Exactness
 
+
+pub mod Working
+pub mod Turns
