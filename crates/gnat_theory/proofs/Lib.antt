@@ -8,3 +8,4 @@ pub mod Exactness
 
 pub mod Working
 pub mod Turns
+pub mod Filed

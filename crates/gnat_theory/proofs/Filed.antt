@@ -1,0 +1,171 @@
+-- Filing a sample: what the tree then holds, and that its ranges still hold. Assumes nothing.
+use mathlib.Core.Bool.{Bool, true, false, cond}
+use mathlib.Core.List.{List, [], _∷_, _++_}
+use mathlib.Core.Path.{_≡_, refl, sym, ap, subst, _∙_}
+use Prim.Native.Nat.{ℕ, zero, suc, _+_, _≤_, _<_, min, max}
+use native.Mathlib.Omega.{arith}
+use lib.Dec.{ltb}
+use lib.ListN.{length, length-append}
+use Rattle.std.specs.shelf.Lists.{All}
+use Rattle.std.proofs.shelf.Tests.{cond-both}
+use Rattle.std.proofs.shelf.Lists.{append-nil}
+use Rattle.std.proofs.shelf.Elements.{all-weaker}
+use Rattle.hits.specs.Samples.{Sample}
+use Rattle.gnat_theory.specs.Tree.{Tree, Parts, Pivot, Range, sample-of, pivots, gathered, gathered-parts, always, members}
+use Rattle.gnat_theory.specs.Tree.Tree.{leaf, branch}
+use Rattle.gnat_theory.specs.Tree.Parts.{none, part}
+use Rattle.gnat_theory.specs.Filing.{least-place, nearest, widened, distances, filed, filed-under, filed-all}
+use Rattle.gnat_theory.specs.Ranges.{Holds, Fits, Ranged, Ranged-parts}
+use Rattle.gnat_theory.specs.Shapes.{Branching, Branching-parts, Leaves, Leaves-parts}
+use Rattle.gnat_theory.specs.Shuffles.{Shuffle}
+use Rattle.gnat_theory.specs.Shuffles.Shuffle.{after, swapped, in-turn}
+use Rattle.gnat_theory.proofs.Shuffling.{same-order, shuffle-back, shuffle-behind, shuffle-before, shuffle-front, all-shuffle}
+
+least-place-below : (n j d i : ℕ) (xs : List ℕ) → j < n → i + length xs ≤ n → least-place j d i xs < n
+least-place-below n j d i [] l m = l
+least-place-below n j d i (x ∷ xs) l m =
+    cond-both (ltb x d) (least-place i x (suc i) xs) (least-place j d (suc i) xs) (λ z. z < n)
+      (λ e. least-place-below n i x (suc i) xs (omega arith) (omega arith))
+      (λ e. least-place-below n j d (suc i) xs l (omega arith))
+
+nearest-below : (ds : List ℕ) → 0 < length ds → nearest ds < length ds
+nearest-below [] l = absurd (omega arith)
+nearest-below (d ∷ ds) l = least-place-below (length (d ∷ ds)) 0 d 1 ds l (omega arith)
+
+module _ {E : Type 0} (dist : E → E → ℕ) where
+  length-distances : (ps : List (Sample E)) (s : Sample E) → length (distances dist ps s) ≡ length ps
+  length-distances [] s = refl
+  length-distances (p ∷ ps) s = ap suc (length-distances ps s)
+
+  fits-shuffle : (ps : List (Sample E)) (rs : List Range) (xs ys : List (Sample E)) → Shuffle (Sample E) xs ys → Fits dist ps rs xs → Fits dist ps rs ys
+  fits-shuffle [] [] xs ys s f = tt
+  fits-shuffle [] (r ∷ rs) xs ys s f = f
+  fits-shuffle (p ∷ ps) [] xs ys s f = f
+  fits-shuffle (p ∷ ps) (r ∷ rs) xs ys s f = (all-shuffle (Holds dist p r) xs ys s (f .0), fits-shuffle ps rs xs ys s (f .1))
+
+  -- the widened ranges hold one more
+  fits-widened : (ps : List (Sample E)) (rs : List Range) (s : Sample E) (xs : List (Sample E)) → Fits dist ps rs xs → Fits dist ps (widened rs (distances dist ps s)) (s ∷ xs)
+  fits-widened [] [] s xs f = tt
+  fits-widened [] (r ∷ rs) s xs f = f
+  fits-widened (p ∷ ps) [] s xs f = f
+  fits-widened (p ∷ ps) (r ∷ rs) s xs f =
+      let d = dist (p .element) (s .element) in
+      let wide : Range = record { low = min (r .low) d; high = max (r .high) d } in
+      (((omega arith, omega arith), all-weaker (Holds dist p r) (Holds dist p wide) (λ x h. (omega (arith, h .0), omega (arith, h .1))) xs (f .0)), fits-widened ps rs s xs (f .1))
+
+  module _ (grown : List (Sample E) → Tree E) where
+    pub filed-pivots : (s : Sample E) (ds : List ℕ) (n : ℕ) (ps : Parts E) → pivots (filed-under dist grown s ds n ps) ≡ pivots ps
+    filed-pivots s ds n none = refl
+    filed-pivots s ds zero (part p column t rest) = refl
+    filed-pivots s ds (suc n) (part p column t rest) = ap (λ z. sample-of p ∷ z) (filed-pivots s ds n rest)
+
+    -- every branch keeps its number of pivots
+    module _ (degree : ℕ) (branching : (xs : List (Sample E)) → Branching degree (grown xs)) where
+      mutual
+        pub filed-branching : (s : Sample E) (t : Tree E) → Branching degree t → Branching degree (filed dist grown s t)
+        filed-branching s (leaf xs) b = branching (xs ++ (s ∷ []))
+        filed-branching s (branch ps) b =
+            let ds = distances dist (pivots ps) s in
+            (ap length (filed-pivots s ds (nearest ds) ps) ∙ b .0, filed-under-branching s ds (nearest ds) ps (b .1))
+
+        filed-under-branching : (s : Sample E) (ds : List ℕ) (n : ℕ) (ps : Parts E) → Branching-parts degree ps → Branching-parts degree (filed-under dist grown s ds n ps)
+        filed-under-branching s ds n none b = tt
+        filed-under-branching s ds zero (part p column t rest) b = (filed-branching s t (b .0), b .1)
+        filed-under-branching s ds (suc n) (part p column t rest) b = (b .0, filed-under-branching s ds n rest (b .1))
+
+    -- the samples are those before and the new one
+    module _ (of-pivot : Pivot E → List (Sample E)) (same : (xs : List (Sample E)) → Shuffle (Sample E) (gathered of-pivot (grown xs)) xs) (degree : ℕ) (some : 1 ≤ degree) where
+      mutual
+        pub filed-gathered : (s : Sample E) (t : Tree E) → Branching degree t → Shuffle (Sample E) (gathered of-pivot (filed dist grown s t)) (s ∷ gathered of-pivot t)
+        filed-gathered s (leaf xs) b =
+            in-turn (gathered of-pivot (grown (xs ++ (s ∷ [])))) (xs ++ (s ∷ [])) (s ∷ xs) (same (xs ++ (s ∷ [])))
+              (subst (λ z. Shuffle (Sample E) (xs ++ (s ∷ [])) (s ∷ z)) (append-nil xs) (shuffle-front xs s []))
+        filed-gathered s (branch ps) b =
+            let ds = distances dist (pivots ps) s in
+            let l : length ds ≡ length (pivots ps) = length-distances (pivots ps) s in
+            filed-under-gathered s ds (nearest ds) ps (omega (arith, nearest-below ds (omega (arith, b .0)))) (b .1)
+
+        filed-under-gathered : (s : Sample E) (ds : List ℕ) (n : ℕ) (ps : Parts E) → n < length (pivots ps) → Branching-parts degree ps → Shuffle (Sample E) (gathered-parts of-pivot (filed-under dist grown s ds n ps)) (s ∷ gathered-parts of-pivot ps)
+        filed-under-gathered s ds n none l b = absurd (omega arith)
+        filed-under-gathered s ds zero (part p column t rest) l b =
+            let o = of-pivot p in
+            let x = gathered of-pivot t in
+            let y = gathered of-pivot (filed dist grown s t) in
+            let g = gathered-parts of-pivot rest in
+            in-turn (o ++ (y ++ g)) (o ++ (s ∷ (x ++ g))) (s ∷ (o ++ (x ++ g)))
+              (shuffle-behind o (y ++ g) (s ∷ (x ++ g)) (shuffle-before g y (s ∷ x) (filed-gathered s t (b .0)))) (shuffle-front o s (x ++ g))
+        filed-under-gathered s ds (suc n) (part p column t rest) l b =
+            let o = of-pivot p in
+            let x = gathered of-pivot t in
+            let g = gathered-parts of-pivot rest in
+            let h = gathered-parts of-pivot (filed-under dist grown s ds n rest) in
+            in-turn (o ++ (x ++ h)) (o ++ (s ∷ (x ++ g))) (s ∷ (o ++ (x ++ g)))
+              (shuffle-behind o (x ++ h) (s ∷ (x ++ g))
+                (in-turn (x ++ h) (x ++ (s ∷ g)) (s ∷ (x ++ g)) (shuffle-behind x h (s ∷ g) (filed-under-gathered s ds n rest (omega arith) (b .1))) (shuffle-front x s g)))
+              (shuffle-front o s (x ++ g))
+
+    -- the ranges hold
+    module _ (same : (xs : List (Sample E)) → Shuffle (Sample E) (members (grown xs)) xs) (ranged : (xs : List (Sample E)) → Ranged dist (grown xs)) (degree : ℕ) (some : 1 ≤ degree) where
+      mutual
+        pub filed-ranged : (s : Sample E) (t : Tree E) → Branching degree t → Ranged dist t → Ranged dist (filed dist grown s t)
+        filed-ranged s (leaf xs) b r = ranged (xs ++ (s ∷ []))
+        filed-ranged s (branch ps) b r =
+            let ds = distances dist (pivots ps) s in
+            subst (λ z. Ranged-parts dist z (filed-under dist grown s ds (nearest ds) ps)) (sym (filed-pivots s ds (nearest ds) ps)) (filed-under-ranged s (pivots ps) (nearest ds) ps (b .1) r)
+
+        filed-under-ranged : (s : Sample E) (all : List (Sample E)) (n : ℕ) (ps : Parts E) → Branching-parts degree ps → Ranged-parts dist all ps → Ranged-parts dist all (filed-under dist grown s (distances dist all s) n ps)
+        filed-under-ranged s all n none b r = tt
+        filed-under-ranged s all zero (part p column t rest) b r =
+            let q = sample-of p in
+            let x = members t in
+            let y = members (filed dist grown s t) in
+            ( fits-shuffle all (widened column (distances dist all s)) (s ∷ (q ∷ x)) (q ∷ y)
+                (in-turn (s ∷ (q ∷ x)) (q ∷ (s ∷ x)) (q ∷ y) (swapped s q x) (after q (s ∷ x) y (shuffle-back y (s ∷ x) (filed-gathered always same degree some s t (b .0)))))
+                (fits-widened all column s (q ∷ x) (r .0))
+            , filed-ranged s t (b .0) (r .1)
+            , r .2
+            )
+        filed-under-ranged s all (suc n) (part p column t rest) b r = (r .0, r .1, filed-under-ranged s all n rest (b .1) (r .2))
+
+module _ {E : Type 0} (low high : ℕ) (more : low ≤ high) where
+  mutual
+    pub leaves-more : (t : Tree E) → Leaves low t → Leaves high t
+    leaves-more (leaf xs) l = omega arith
+    leaves-more (branch ps) l = leaves-more-parts ps l
+
+    leaves-more-parts : (ps : Parts E) → Leaves-parts low ps → Leaves-parts high ps
+    leaves-more-parts none l = tt
+    leaves-more-parts (part p column t rest) l = (leaves-more t (l .0), leaves-more-parts rest (l .1))
+
+  -- no leaf grows too large
+  module _ (dist : E → E → ℕ) (grown : List (Sample E) → Tree E) (small : (xs : List (Sample E)) → length xs ≤ suc low → Leaves high (grown xs)) where
+    mutual
+      pub filed-leaves : (s : Sample E) (t : Tree E) → Leaves low t → Leaves high (filed dist grown s t)
+      filed-leaves s (leaf xs) l = small (xs ++ (s ∷ [])) (omega (arith, length-append xs (s ∷ [])))
+      filed-leaves s (branch ps) l = filed-under-leaves s (distances dist (pivots ps) s) (nearest (distances dist (pivots ps) s)) ps l
+
+      filed-under-leaves : (s : Sample E) (ds : List ℕ) (n : ℕ) (ps : Parts E) → Leaves-parts low ps → Leaves-parts high (filed-under dist grown s ds n ps)
+      filed-under-leaves s ds n none l = tt
+      filed-under-leaves s ds zero (part p column t rest) l = (filed-leaves s t (l .0), leaves-more-parts rest (l .1))
+      filed-under-leaves s ds (suc n) (part p column t rest) l = (leaves-more t (l .0), filed-under-leaves s ds n rest (l .1))
+
+-- filing one by one
+module _ {E : Type 0} (dist : E → E → ℕ) (grown : List (Sample E) → Tree E) (degree : ℕ) (branching : (xs : List (Sample E)) → Branching degree (grown xs)) where
+  pub filed-all-branching : (xs : List (Sample E)) (t : Tree E) → Branching degree t → Branching degree (filed-all dist grown xs t)
+  filed-all-branching [] t b = b
+  filed-all-branching (s ∷ xs) t b = filed-all-branching xs (filed dist grown s t) (filed-branching dist grown degree branching s t b)
+
+  module _ (some : 1 ≤ degree) (of-pivot : Pivot E → List (Sample E)) (same : (xs : List (Sample E)) → Shuffle (Sample E) (gathered of-pivot (grown xs)) xs) where
+    pub filed-all-gathered : (xs : List (Sample E)) (t : Tree E) → Branching degree t → Shuffle (Sample E) (gathered of-pivot (filed-all dist grown xs t)) (xs ++ gathered of-pivot t)
+    filed-all-gathered [] t b = same-order (gathered of-pivot t)
+    filed-all-gathered (s ∷ xs) t b =
+        let x = gathered of-pivot t in
+        let y = gathered of-pivot (filed dist grown s t) in
+        let z = gathered of-pivot (filed-all dist grown (s ∷ xs) t) in
+        in-turn z (xs ++ y) (s ∷ (xs ++ x)) (filed-all-gathered xs (filed dist grown s t) (filed-branching dist grown degree branching s t b))
+          (in-turn (xs ++ y) (xs ++ (s ∷ x)) (s ∷ (xs ++ x)) (shuffle-behind xs y (s ∷ x) (filed-gathered dist grown of-pivot same degree some s t b)) (shuffle-front xs s x))
+
+  module _ (some : 1 ≤ degree) (same : (xs : List (Sample E)) → Shuffle (Sample E) (members (grown xs)) xs) (ranged : (xs : List (Sample E)) → Ranged dist (grown xs)) where
+    pub filed-all-ranged : (xs : List (Sample E)) (t : Tree E) → Branching degree t → Ranged dist t → Ranged dist (filed-all dist grown xs t)
+    filed-all-ranged [] t b r = r
+    filed-all-ranged (s ∷ xs) t b r = filed-all-ranged xs (filed dist grown s t) (filed-branching dist grown degree branching s t b) (filed-ranged dist grown same ranged degree some s t b r)
