@@ -20,7 +20,7 @@ use Rattle.gnat_theory.specs.Tree.Tree.{leaf, branch}
 use Rattle.gnat_theory.specs.Tree.Parts.{none, part}
 use Rattle.gnat_theory.specs.Searching.{Want, State, Sight, start, nearest-hits, hits-within, struck, measure, measure-all, measure-pivot, sight-of, look, survey, searched, searched-open}
 use Rattle.gnat_theory.specs.Searching.Sight.{passed, seen}
-use Rattle.gnat_theory.specs.Ranges.{Fits, Ranged, Ranged-parts}
+use Rattle.gnat_theory.specs.Ranges.{Throughout-parts, Fits, Ranged}
 use Rattle.gnat_theory.specs.Shuffles.{Shuffle}
 use Rattle.gnat_theory.specs.Shuffles.Shuffle.{in-turn}
 use Rattle.gnat_theory.proofs.Ordering.{hits-sorted}
@@ -121,7 +121,7 @@ module _ {E : Type 0} (top : ℕ) (dist : E → E → ℕ) (laws : Metric-laws t
         (λ h. (measured-pivot p xs st e, sight-tells p (if-standing p ++ xs) (measure-pivot dist q w p st) (measured-pivot p xs st e)))
 
   -- all pivots of a branch
-  surveyed : (ps : Parts E) (done all : List (Sample E)) (ss : List Sight) (st : State) (xs : List (Sample E)) → done ++ pivots ps ≡ all → Ranged-parts dist all ps → Sighted done ss xs → Counts xs st → Counts (with-pivots ps xs) (survey dist q w ps ss st .1) × Sighted all (survey dist q w ps ss st .0) (with-pivots ps xs)
+  surveyed : (ps : Parts E) (done all : List (Sample E)) (ss : List Sight) (st : State) (xs : List (Sample E)) → done ++ pivots ps ≡ all → Throughout-parts (Fits dist) all ps → Sighted done ss xs → Counts xs st → Counts (with-pivots ps xs) (survey dist q w ps ss st .1) × Sighted all (survey dist q w ps ss st .0) (with-pivots ps xs)
   surveyed none done all ss st xs i r t e = (e, subst (λ z. Sighted z ss xs) (sym (append-nil done) ∙ i) t)
   surveyed (part p column c rest) done all ss st xs i r t e =
       let l = looked p column c done (sample-of p ∷ pivots rest) ss st xs (subst (λ z. Fits dist z column (sample-of p ∷ members c)) (sym i) (r .0)) t e in
@@ -137,7 +137,7 @@ module _ {E : Type 0} (top : ℕ) (dist : E → E → ℕ) (laws : Metric-laws t
         open-counts ps (pivots ps) (survey dist q w ps [] st .0) (survey dist q w ps [] st .1) (with-pivots ps xs) r (s .1) (s .0)
         ∙ ap result (hits-shuffle dist q (with-children ps (with-pivots ps xs)) (gathered-parts if-standing ps ++ xs) (all-counted ps xs))
 
-    open-counts : (ps : Parts E) (all : List (Sample E)) (ss : List Sight) (st : State) (xs : List (Sample E)) → Ranged-parts dist all ps → Sighted all ss xs → Counts xs st → Counts (with-children ps xs) (searched-open dist q w ps ss st)
+    open-counts : (ps : Parts E) (all : List (Sample E)) (ss : List Sight) (st : State) (xs : List (Sample E)) → Throughout-parts (Fits dist) all ps → Sighted all ss xs → Counts xs st → Counts (with-children ps xs) (searched-open dist q w ps ss st)
     open-counts none all ss st xs r t e = e
     open-counts (part p column c rest) all ss st xs r t e =
         let before = with-children rest xs in

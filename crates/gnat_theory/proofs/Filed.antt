@@ -1,13 +1,14 @@
 -- Filing a sample: what the tree then holds, and that its ranges still hold. Assumes nothing.
 use mathlib.Core.Bool.{Bool, true, false, cond}
 use mathlib.Core.List.{List, [], _∷_, _++_}
+use mathlib.Core.Logic.{_⊎_, inl, inr, ⊎-elim}
 use mathlib.Core.Path.{_≡_, refl, sym, ap, subst, _∙_}
 use Prim.Native.Nat.{ℕ, zero, suc, _+_, _≤_, _<_, min, max}
 use native.Mathlib.Omega.{arith}
 use lib.Dec.{ltb}
 use lib.ListN.{length, length-append}
 use Rattle.std.specs.shelf.Lists.{All}
-use Rattle.std.proofs.shelf.Tests.{cond-both}
+use Rattle.std.proofs.shelf.Tests.{cond-both, cases-lt}
 use Rattle.std.proofs.shelf.Lists.{append-nil}
 use Rattle.std.proofs.shelf.Elements.{all-weaker}
 use Rattle.hits.specs.Samples.{Sample}
@@ -15,11 +16,11 @@ use Rattle.gnat_theory.specs.Tree.{Tree, Parts, Pivot, Range, sample-of, pivot
 use Rattle.gnat_theory.specs.Tree.Tree.{leaf, branch}
 use Rattle.gnat_theory.specs.Tree.Parts.{none, part}
 use Rattle.gnat_theory.specs.Filing.{least-place, nearest, widened, distances, filed, filed-under, filed-all}
-use Rattle.gnat_theory.specs.Ranges.{Holds, Fits, Ranged, Ranged-parts}
+use Rattle.gnat_theory.specs.Ranges.{Throughout, Throughout-parts, Holds, Fits, Attained, Tight}
 use Rattle.gnat_theory.specs.Shapes.{Branching, Branching-parts, Leaves, Leaves-parts}
 use Rattle.gnat_theory.specs.Shuffles.{Shuffle}
 use Rattle.gnat_theory.specs.Shuffles.Shuffle.{after, swapped, in-turn}
-use Rattle.gnat_theory.proofs.Shuffling.{same-order, shuffle-back, shuffle-behind, shuffle-before, shuffle-front, all-shuffle}
+use Rattle.gnat_theory.proofs.Shuffling.{same-order, shuffle-back, shuffle-behind, shuffle-before, shuffle-front, all-shuffle, among-shuffle}
 
 least-place-below : (n j d i : ℕ) (xs : List ℕ) → j < n → i + length xs ≤ n → least-place j d i xs < n
 least-place-below n j d i [] l m = l
@@ -32,10 +33,25 @@ nearest-below : (ds : List ℕ) → 0 < length ds → nearest ds < length ds
 nearest-below [] l = absurd (omega arith)
 nearest-below (d ∷ ds) l = least-place-below (length (d ∷ ds)) 0 d 1 ds l (omega arith)
 
+min-either : (a b : ℕ) → (min a b ≡ a) ⊎ (min a b ≡ b)
+min-either a b = ⊎-elim (λ l. inl (omega arith)) (λ l. inr (omega arith)) (cases-lt a b)
+
+max-either : (a b : ℕ) → (max a b ≡ a) ⊎ (max a b ≡ b)
+max-either a b = ⊎-elim (λ l. inr (omega arith)) (λ l. inl (omega arith)) (cases-lt a b)
+
 module _ {E : Type 0} (dist : E → E → ℕ) where
   length-distances : (ps : List (Sample E)) (s : Sample E) → length (distances dist ps s) ≡ length ps
   length-distances [] s = refl
   length-distances (p ∷ ps) s = ap suc (length-distances ps s)
+
+  -- a fact about the ranges of some pivots and the samples below a child
+  abbrev pub Column-fact : Type 1
+  Column-fact = List (Sample E) → List Range → List (Sample E) → Type 0
+
+  -- it does not hang on the order of the samples, and the widened ranges have it with one sample more
+  pub record Carries (C : Column-fact) : Type 0 where
+    pub reordered : (ps : List (Sample E)) (rs : List Range) (xs ys : List (Sample E)) → Shuffle (Sample E) xs ys → C ps rs xs → C ps rs ys
+    pub one-more : (ps : List (Sample E)) (rs : List Range) (s : Sample E) (xs : List (Sample E)) → C ps rs xs → C ps (widened rs (distances dist ps s)) (s ∷ xs)
 
   fits-shuffle : (ps : List (Sample E)) (rs : List Range) (xs ys : List (Sample E)) → Shuffle (Sample E) xs ys → Fits dist ps rs xs → Fits dist ps rs ys
   fits-shuffle [] [] xs ys s f = tt
@@ -43,7 +59,6 @@ module _ {E : Type 0} (dist : E → E → ℕ) where
   fits-shuffle (p ∷ ps) [] xs ys s f = f
   fits-shuffle (p ∷ ps) (r ∷ rs) xs ys s f = (all-shuffle (Holds dist p r) xs ys s (f .0), fits-shuffle ps rs xs ys s (f .1))
 
-  -- the widened ranges hold one more
   fits-widened : (ps : List (Sample E)) (rs : List Range) (s : Sample E) (xs : List (Sample E)) → Fits dist ps rs xs → Fits dist ps (widened rs (distances dist ps s)) (s ∷ xs)
   fits-widened [] [] s xs f = tt
   fits-widened [] (r ∷ rs) s xs f = f
@@ -52,6 +67,45 @@ module _ {E : Type 0} (dist : E → E → ℕ) where
       let d = dist (p .element) (s .element) in
       let wide : Range = record { low = min (r .low) d; high = max (r .high) d } in
       (((omega arith, omega arith), all-weaker (Holds dist p r) (Holds dist p wide) (λ x h. (omega (arith, h .0), omega (arith, h .1))) xs (f .0)), fits-widened ps rs s xs (f .1))
+
+  pub fits-carries : Carries (Fits dist)
+  fits-carries = record { reordered = fits-shuffle; one-more = fits-widened }
+
+  attained-shuffle : (p : Sample E) (d : ℕ) (xs ys : List (Sample E)) → Shuffle (Sample E) xs ys → Attained dist p d xs → Attained dist p d ys
+  attained-shuffle p d xs ys s a = (a .0, among-shuffle (a .0) xs ys s (a .1), a .2)
+
+  -- of two distances that are attained, the smaller and the greater are
+  attained-either : (p : Sample E) (d e m : ℕ) (xs : List (Sample E)) → (m ≡ d) ⊎ (m ≡ e) → Attained dist p d xs → Attained dist p e xs → Attained dist p m xs
+  attained-either p d e m xs (inl i) a b = (a .0, a .1, a .2 ∙ sym i)
+  attained-either p d e m xs (inr i) a b = (b .0, b .1, b .2 ∙ sym i)
+
+  attained-here : (p s : Sample E) (xs : List (Sample E)) → Attained dist p (dist (p .element) (s .element)) (s ∷ xs)
+  attained-here p s xs = (s, inl refl, refl)
+
+  attained-more : (p s : Sample E) (d : ℕ) (xs : List (Sample E)) → Attained dist p d xs → Attained dist p d (s ∷ xs)
+  attained-more p s d xs a = (a .0, inr (a .1), a .2)
+
+  tight-shuffle : (ps : List (Sample E)) (rs : List Range) (xs ys : List (Sample E)) → Shuffle (Sample E) xs ys → Tight dist ps rs xs → Tight dist ps rs ys
+  tight-shuffle [] [] xs ys s f = tt
+  tight-shuffle [] (r ∷ rs) xs ys s f = f
+  tight-shuffle (p ∷ ps) [] xs ys s f = f
+  tight-shuffle (p ∷ ps) (r ∷ rs) xs ys s f = ((attained-shuffle p (r .low) xs ys s (f .0 .0), attained-shuffle p (r .high) xs ys s (f .0 .1)), tight-shuffle ps rs xs ys s (f .1))
+
+  tight-widened : (ps : List (Sample E)) (rs : List Range) (s : Sample E) (xs : List (Sample E)) → Tight dist ps rs xs → Tight dist ps (widened rs (distances dist ps s)) (s ∷ xs)
+  tight-widened [] [] s xs f = tt
+  tight-widened [] (r ∷ rs) s xs f = f
+  tight-widened (p ∷ ps) [] s xs f = f
+  tight-widened (p ∷ ps) (r ∷ rs) s xs f =
+      let d = dist (p .element) (s .element) in
+      let here = attained-here p s xs in
+      ( ( attained-either p (r .low) d (min (r .low) d) (s ∷ xs) (min-either (r .low) d) (attained-more p s (r .low) xs (f .0 .0)) here
+        , attained-either p (r .high) d (max (r .high) d) (s ∷ xs) (max-either (r .high) d) (attained-more p s (r .high) xs (f .0 .1)) here
+        )
+      , tight-widened ps rs s xs (f .1)
+      )
+
+  pub tight-carries : Carries (Tight dist)
+  tight-carries = record { reordered = tight-shuffle; one-more = tight-widened }
 
   module _ (grown : List (Sample E) → Tree E) where
     pub filed-pivots : (s : Sample E) (ds : List ℕ) (n : ℕ) (ps : Parts E) → pivots (filed-under dist grown s ds n ps) ≡ pivots ps
@@ -104,28 +158,28 @@ module _ {E : Type 0} (dist : E → E → ℕ) where
                 (in-turn (x ++ h) (x ++ (s ∷ g)) (s ∷ (x ++ g)) (shuffle-behind x h (s ∷ g) (filed-under-gathered s ds n rest (omega arith) (b .1))) (shuffle-front x s g)))
               (shuffle-front o s (x ++ g))
 
-    -- the ranges hold
-    module _ (same : (xs : List (Sample E)) → Shuffle (Sample E) (members (grown xs)) xs) (ranged : (xs : List (Sample E)) → Ranged dist (grown xs)) (degree : ℕ) (some : 1 ≤ degree) where
+    -- what holds throughout and survives widening and a new order holds throughout
+    module _ (C : Column-fact) (carries : Carries C) (same : (xs : List (Sample E)) → Shuffle (Sample E) (members (grown xs)) xs) (throughout : (xs : List (Sample E)) → Throughout C (grown xs)) (degree : ℕ) (some : 1 ≤ degree) where
       mutual
-        pub filed-ranged : (s : Sample E) (t : Tree E) → Branching degree t → Ranged dist t → Ranged dist (filed dist grown s t)
-        filed-ranged s (leaf xs) b r = ranged (xs ++ (s ∷ []))
-        filed-ranged s (branch ps) b r =
+        pub filed-throughout : (s : Sample E) (t : Tree E) → Branching degree t → Throughout C t → Throughout C (filed dist grown s t)
+        filed-throughout s (leaf xs) b r = throughout (xs ++ (s ∷ []))
+        filed-throughout s (branch ps) b r =
             let ds = distances dist (pivots ps) s in
-            subst (λ z. Ranged-parts dist z (filed-under dist grown s ds (nearest ds) ps)) (sym (filed-pivots s ds (nearest ds) ps)) (filed-under-ranged s (pivots ps) (nearest ds) ps (b .1) r)
+            subst (λ z. Throughout-parts C z (filed-under dist grown s ds (nearest ds) ps)) (sym (filed-pivots s ds (nearest ds) ps)) (filed-under-throughout s (pivots ps) (nearest ds) ps (b .1) r)
 
-        filed-under-ranged : (s : Sample E) (all : List (Sample E)) (n : ℕ) (ps : Parts E) → Branching-parts degree ps → Ranged-parts dist all ps → Ranged-parts dist all (filed-under dist grown s (distances dist all s) n ps)
-        filed-under-ranged s all n none b r = tt
-        filed-under-ranged s all zero (part p column t rest) b r =
+        filed-under-throughout : (s : Sample E) (all : List (Sample E)) (n : ℕ) (ps : Parts E) → Branching-parts degree ps → Throughout-parts C all ps → Throughout-parts C all (filed-under dist grown s (distances dist all s) n ps)
+        filed-under-throughout s all n none b r = tt
+        filed-under-throughout s all zero (part p column t rest) b r =
             let q = sample-of p in
             let x = members t in
             let y = members (filed dist grown s t) in
-            ( fits-shuffle all (widened column (distances dist all s)) (s ∷ (q ∷ x)) (q ∷ y)
+            ( carries .reordered all (widened column (distances dist all s)) (s ∷ (q ∷ x)) (q ∷ y)
                 (in-turn (s ∷ (q ∷ x)) (q ∷ (s ∷ x)) (q ∷ y) (swapped s q x) (after q (s ∷ x) y (shuffle-back y (s ∷ x) (filed-gathered always same degree some s t (b .0)))))
-                (fits-widened all column s (q ∷ x) (r .0))
-            , filed-ranged s t (b .0) (r .1)
+                (carries .one-more all column s (q ∷ x) (r .0))
+            , filed-throughout s t (b .0) (r .1)
             , r .2
             )
-        filed-under-ranged s all (suc n) (part p column t rest) b r = (r .0, r .1, filed-under-ranged s all n rest (b .1) (r .2))
+        filed-under-throughout s all (suc n) (part p column t rest) b r = (r .0, r .1, filed-under-throughout s all n rest (b .1) (r .2))
 
 module _ {E : Type 0} (low high : ℕ) (more : low ≤ high) where
   mutual
@@ -165,7 +219,7 @@ module _ {E : Type 0} (dist : E → E → ℕ) (grown : List (Sample E) → Tree
         in-turn z (xs ++ y) (s ∷ (xs ++ x)) (filed-all-gathered xs (filed dist grown s t) (filed-branching dist grown degree branching s t b))
           (in-turn (xs ++ y) (xs ++ (s ∷ x)) (s ∷ (xs ++ x)) (shuffle-behind xs y (s ∷ x) (filed-gathered dist grown of-pivot same degree some s t b)) (shuffle-front xs s x))
 
-  module _ (some : 1 ≤ degree) (same : (xs : List (Sample E)) → Shuffle (Sample E) (members (grown xs)) xs) (ranged : (xs : List (Sample E)) → Ranged dist (grown xs)) where
-    pub filed-all-ranged : (xs : List (Sample E)) (t : Tree E) → Branching degree t → Ranged dist t → Ranged dist (filed-all dist grown xs t)
-    filed-all-ranged [] t b r = r
-    filed-all-ranged (s ∷ xs) t b r = filed-all-ranged xs (filed dist grown s t) (filed-branching dist grown degree branching s t b) (filed-ranged dist grown same ranged degree some s t b r)
+  module _ (some : 1 ≤ degree) (C : Column-fact dist) (carries : Carries dist C) (same : (xs : List (Sample E)) → Shuffle (Sample E) (members (grown xs)) xs) (throughout : (xs : List (Sample E)) → Throughout C (grown xs)) where
+    pub filed-all-throughout : (xs : List (Sample E)) (t : Tree E) → Branching degree t → Throughout C t → Throughout C (filed-all dist grown xs t)
+    filed-all-throughout [] t b r = r
+    filed-all-throughout (s ∷ xs) t b r = filed-all-throughout xs (filed dist grown s t) (filed-branching dist grown degree branching s t b) (filed-throughout dist grown C carries same throughout degree some s t b r)

@@ -1,5 +1,6 @@
 -- Lists in another order. Assumes nothing.
 use mathlib.Core.List.{List, [], _∷_, _++_}
+use mathlib.Core.Logic.{_⊎_, inl, inr, ⊎-elim}
 use mathlib.Core.Path.{_≡_, refl, sym, ap, subst, _∙_}
 use Prim.Native.Nat.{ℕ, suc}
 use lib.ListN.{length}
@@ -7,7 +8,7 @@ use Rattle.std.specs.shelf.Lists.{All}
 use Rattle.std.proofs.shelf.Lists.{append-assoc, append-nil}
 use Rattle.hits.specs.declared.Hit.{Hit}
 use Rattle.hits.specs.Order.{put}
-use Rattle.hits.specs.Samples.{Sample, hit-of, hits}
+use Rattle.hits.specs.Samples.{Sample, Among, hit-of, hits}
 use Rattle.hits.proofs.Putting.{put-put}
 use Rattle.gnat_theory.specs.Shuffles.{Shuffle}
 use Rattle.gnat_theory.specs.Shuffles.Shuffle.{nothing, after, swapped, in-turn}
@@ -61,6 +62,12 @@ module _ {X : Type 0} where
   all-shuffle P _ _ (after x xs ys s) a = (a .0, all-shuffle P xs ys s (a .1))
   all-shuffle P _ _ (swapped x y xs) a = (a .1 .0, (a .0, a .1 .1))
   all-shuffle P _ _ (in-turn xs ys zs s t) a = all-shuffle P ys zs t (all-shuffle P xs ys s a)
+
+  pub among-shuffle : (a : X) (xs ys : List X) → Shuffle X xs ys → Among a xs → Among a ys
+  among-shuffle a _ _ nothing m = m
+  among-shuffle a _ _ (after x xs ys s) m = ⊎-elim inl (λ k. inr (among-shuffle a xs ys s k)) m
+  among-shuffle a _ _ (swapped x y xs) m = ⊎-elim (λ i. inr (inl i)) (λ k. ⊎-elim inl (λ j. inr (inr j)) k) m
+  among-shuffle a _ _ (in-turn xs ys zs s t) m = among-shuffle a ys zs t (among-shuffle a xs ys s m)
 
   pub length-shuffle : (xs ys : List X) → Shuffle X xs ys → length xs ≡ length ys
   length-shuffle _ _ nothing = refl
