@@ -9,3 +9,5 @@ pub mod Exactness
 pub mod Working
 pub mod Turns
 pub mod Filed
+pub mod Splits
+pub mod Drops

@@ -1,0 +1,141 @@
+-- Dropping a sample: what the tree then holds, and that its ranges and shape stay. Assumes nothing.
+use mathlib.Core.Bool.{Bool, true, false, cond}
+use mathlib.Core.List.{List, [], _∷_, _++_}
+use mathlib.Core.Path.{_≡_, refl, sym, ap, ap₂, subst, _∙_}
+use Prim.Native.Nat.{ℕ, suc, _≤_}
+use native.Mathlib.Omega.{arith}
+use lib.Dec.{eqb}
+use lib.ListN.{length}
+use Rattle.std.specs.shelf.Lists.{All}
+use Rattle.std.proofs.shelf.Tests.{cond-both, cond-true, cond-false}
+use Rattle.std.proofs.shelf.Elements.{all-append}
+use Rattle.hits.specs.Samples.{Sample}
+use Rattle.index.specs.Meaning.{without}
+use Rattle.gnat_theory.specs.Tree.{Tree, Parts, Pivot, Range, sample-of, pivots, gathered-parts, if-standing, always, standing, members}
+use Rattle.gnat_theory.specs.Tree.Tree.{leaf, branch}
+use Rattle.gnat_theory.specs.Tree.Parts.{none, part}
+use Rattle.gnat_theory.specs.Dropping.{marked-at, shrunk, shrunk-parts}
+use Rattle.gnat_theory.specs.Ranges.{Throughout-parts, Holds, Fits, Ranged}
+use Rattle.gnat_theory.specs.Shapes.{Branching, Branching-parts, Leaves, Leaves-parts}
+use Rattle.gnat_theory.specs.Shuffles.{Shuffle}
+use Rattle.gnat_theory.specs.Shuffles.Shuffle.{nothing, after, swapped, in-turn}
+use Rattle.gnat_theory.proofs.Shuffling.{same-order}
+use Rattle.gnat_theory.proofs.Gathering.{all-left, all-right}
+
+module _ {E : Type 0} (n : ℕ) where
+  without-append : (xs ys : List (Sample E)) → without n (xs ++ ys) ≡ without n xs ++ without n ys
+  without-append [] ys = refl
+  without-append (x ∷ xs) ys = go (without-append xs ys) (eqb (x .number) n)
+    where
+      go : without n (xs ++ ys) ≡ without n xs ++ without n ys → (t : Bool) → cond t (without n (xs ++ ys)) (x ∷ without n (xs ++ ys)) ≡ cond t (without n xs) (x ∷ without n xs) ++ without n ys
+      go ih true = ih
+      go ih false = ap (λ z. x ∷ z) ih
+
+  pub without-shuffle : (xs ys : List (Sample E)) → Shuffle (Sample E) xs ys → Shuffle (Sample E) (without n xs) (without n ys)
+  without-shuffle _ _ nothing = nothing
+  without-shuffle _ _ (after x xs ys s) = go (without-shuffle xs ys s) (eqb (x .number) n)
+    where
+      go : Shuffle (Sample E) (without n xs) (without n ys) → (t : Bool) → Shuffle (Sample E) (cond t (without n xs) (x ∷ without n xs)) (cond t (without n ys) (x ∷ without n ys))
+      go ih true = ih
+      go ih false = after x (without n xs) (without n ys) ih
+  without-shuffle _ _ (swapped x y xs) = go (eqb (x .number) n) (eqb (y .number) n)
+    where
+      go : (t u : Bool) → Shuffle (Sample E) (cond t (cond u (without n xs) (y ∷ without n xs)) (x ∷ cond u (without n xs) (y ∷ without n xs))) (cond u (cond t (without n xs) (x ∷ without n xs)) (y ∷ cond t (without n xs) (x ∷ without n xs)))
+      go true true = same-order (without n xs)
+      go true false = same-order (y ∷ without n xs)
+      go false true = same-order (x ∷ without n xs)
+      go false false = swapped x y (without n xs)
+  without-shuffle _ _ (in-turn xs ys zs s t) = in-turn (without n xs) (without n ys) (without n zs) (without-shuffle xs ys s) (without-shuffle ys zs t)
+
+  pub without-fewer : (xs : List (Sample E)) → length (without n xs) ≤ length xs
+  without-fewer [] = omega arith
+  without-fewer (x ∷ xs) =
+      let ih : length (without n xs) ≤ length xs = without-fewer xs in
+      cond-both (eqb (x .number) n) (without n xs) (x ∷ without n xs) (λ z. length z ≤ suc (length xs)) (λ e. omega arith) (λ e. omega arith)
+
+  without-all : (P : Sample E → Type 0) (xs : List (Sample E)) → All P xs → All P (without n xs)
+  without-all P [] a = tt
+  without-all P (x ∷ xs) a = cond-both (eqb (x .number) n) (without n xs) (x ∷ without n xs) (All P) (λ e. without-all P xs (a .1)) (λ e. (a .0, without-all P xs (a .1)))
+
+  marked-sample : (p : Pivot E) → sample-of (marked-at n p) ≡ sample-of p
+  marked-sample p = cond-both (eqb (p .number) n) (record { number = p .number; element = p .element; marked = true }) p (λ z. sample-of z ≡ sample-of p) (λ e. refl) (λ e. refl)
+
+  marked-standing : (p : Pivot E) → if-standing (marked-at n p) ≡ without n (if-standing p)
+  marked-standing p =
+      cond-both (eqb (p .number) n) (record { number = p .number; element = p .element; marked = true }) p (λ z. if-standing z ≡ without n (if-standing p)) (λ e. gone e (p .marked)) (λ e. stays e (p .marked))
+    where
+      gone : eqb (p .number) n ≡ true → (m : Bool) → [] ≡ without n (cond m [] (sample-of p ∷ []))
+      gone e true = refl
+      gone e false = sym (cond-true (eqb (p .number) n) [] (sample-of p ∷ []) e)
+      stays : eqb (p .number) n ≡ false → (m : Bool) → cond m [] (sample-of p ∷ []) ≡ without n (cond m [] (sample-of p ∷ []))
+      stays e true = refl
+      stays e false = sym (cond-false (eqb (p .number) n) [] (sample-of p ∷ []) e)
+
+  -- those that stand are those without n, in their order
+  mutual
+    pub shrunk-standing : (t : Tree E) → standing (shrunk n t) ≡ without n (standing t)
+    shrunk-standing (leaf xs) = refl
+    shrunk-standing (branch ps) = shrunk-parts-standing ps
+
+    shrunk-parts-standing : (ps : Parts E) → gathered-parts if-standing (shrunk-parts n ps) ≡ without n (gathered-parts if-standing ps)
+    shrunk-parts-standing none = refl
+    shrunk-parts-standing (part p column t rest) =
+        let o = if-standing p in
+        let x = standing t in
+        let g = gathered-parts if-standing rest in
+        ap₂ (λ y z. y ++ z) (marked-standing p) (ap₂ (λ y z. y ++ z) (shrunk-standing t) (shrunk-parts-standing rest))
+        ∙ sym (without-append o (x ++ g) ∙ ap (λ z. without n o ++ z) (without-append x g))
+
+  shrunk-pivots : (ps : Parts E) → pivots (shrunk-parts n ps) ≡ pivots ps
+  shrunk-pivots none = refl
+  shrunk-pivots (part p column t rest) = ap₂ (λ x y. x ∷ y) (marked-sample p) (shrunk-pivots rest)
+
+  -- nothing new is in the tree
+  mutual
+    shrunk-all : (P : Sample E → Type 0) (t : Tree E) → All P (members t) → All P (members (shrunk n t))
+    shrunk-all P (leaf xs) a = without-all P xs a
+    shrunk-all P (branch ps) a = shrunk-parts-all P ps a
+
+    shrunk-parts-all : (P : Sample E → Type 0) (ps : Parts E) → All P (gathered-parts always ps) → All P (gathered-parts always (shrunk-parts n ps))
+    shrunk-parts-all P none a = tt
+    shrunk-parts-all P (part p column t rest) a =
+        ( subst P (sym (marked-sample p)) (a .0)
+        , all-append P (members (shrunk n t)) (gathered-parts always (shrunk-parts n rest))
+            (shrunk-all P t (all-left P (members t) (gathered-parts always rest) (a .1)))
+            (shrunk-parts-all P rest (all-right P (members t) (gathered-parts always rest) (a .1)))
+        )
+
+  -- the ranges hold
+  module _ (dist : E → E → ℕ) where
+    shrunk-fits : (ps : List (Sample E)) (rs : List Range) (p : Pivot E) (t : Tree E) → Fits dist ps rs (sample-of p ∷ members t) → Fits dist ps rs (sample-of (marked-at n p) ∷ members (shrunk n t))
+    shrunk-fits [] [] p t f = tt
+    shrunk-fits [] (r ∷ rs) p t f = f
+    shrunk-fits (x ∷ ps) [] p t f = f
+    shrunk-fits (x ∷ ps) (r ∷ rs) p t f = ((subst (Holds dist x r) (sym (marked-sample p)) (f .0 .0), shrunk-all (Holds dist x r) t (f .0 .1)), shrunk-fits ps rs p t (f .1))
+
+    mutual
+      pub shrunk-ranged : (t : Tree E) → Ranged dist t → Ranged dist (shrunk n t)
+      shrunk-ranged (leaf xs) r = tt
+      shrunk-ranged (branch ps) r = subst (λ z. Throughout-parts (Fits dist) z (shrunk-parts n ps)) (sym (shrunk-pivots ps)) (shrunk-parts-ranged (pivots ps) ps r)
+
+      shrunk-parts-ranged : (all : List (Sample E)) (ps : Parts E) → Throughout-parts (Fits dist) all ps → Throughout-parts (Fits dist) all (shrunk-parts n ps)
+      shrunk-parts-ranged all none r = tt
+      shrunk-parts-ranged all (part p column t rest) r = (shrunk-fits all column p t (r .0), shrunk-ranged t (r .1), shrunk-parts-ranged all rest (r .2))
+
+  mutual
+    pub shrunk-branching : (degree : ℕ) (t : Tree E) → Branching degree t → Branching degree (shrunk n t)
+    shrunk-branching degree (leaf xs) b = tt
+    shrunk-branching degree (branch ps) b = (ap length (shrunk-pivots ps) ∙ b .0, shrunk-parts-branching degree ps (b .1))
+
+    shrunk-parts-branching : (degree : ℕ) (ps : Parts E) → Branching-parts degree ps → Branching-parts degree (shrunk-parts n ps)
+    shrunk-parts-branching degree none b = tt
+    shrunk-parts-branching degree (part p column t rest) b = (shrunk-branching degree t (b .0), shrunk-parts-branching degree rest (b .1))
+
+  mutual
+    pub shrunk-leaves : (most : ℕ) (t : Tree E) → Leaves most t → Leaves most (shrunk n t)
+    shrunk-leaves most (leaf xs) l = omega (arith, without-fewer xs)
+    shrunk-leaves most (branch ps) l = shrunk-parts-leaves most ps l
+
+    shrunk-parts-leaves : (most : ℕ) (ps : Parts E) → Leaves-parts most ps → Leaves-parts most (shrunk-parts n ps)
+    shrunk-parts-leaves most none l = tt
+    shrunk-parts-leaves most (part p column t rest) l = (shrunk-leaves most t (l .0), shrunk-parts-leaves most rest (l .1))
