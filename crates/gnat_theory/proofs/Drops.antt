@@ -15,12 +15,30 @@ use Rattle.gnat_theory.specs.Tree.{Tree, Parts, Pivot, Range, sample-of, pivot
 use Rattle.gnat_theory.specs.Tree.Tree.{leaf, branch}
 use Rattle.gnat_theory.specs.Tree.Parts.{none, part}
 use Rattle.gnat_theory.specs.Dropping.{marked-at, shrunk, shrunk-parts}
-use Rattle.gnat_theory.specs.Ranges.{Throughout-parts, Holds, Fits, Ranged}
+use Rattle.gnat_theory.specs.Filing.{nearest, distances}
+use Rattle.gnat_theory.specs.Ranges.{Child-fact, Throughout, Throughout-parts, Holds, Fits, Ranges-fit, Own-nearest}
 use Rattle.gnat_theory.specs.Shapes.{Branching, Branching-parts, Leaves, Leaves-parts}
 use Rattle.gnat_theory.specs.Shuffles.{Shuffle}
 use Rattle.gnat_theory.specs.Shuffles.Shuffle.{nothing, after, swapped, in-turn}
 use Rattle.gnat_theory.proofs.Shuffling.{same-order}
 use Rattle.gnat_theory.proofs.Gathering.{all-left, all-right}
+
+-- a fact that stays where some of the samples leave
+abbrev pub Of-fewer : {E : Type 0} → Child-fact E → Type 1
+Of-fewer {E} F = (all : List (Sample E)) (j : ℕ) (rs : List Range) (p : Sample E) (xs ys : List (Sample E)) → ((P : Sample E → Type 0) → All P xs → All P ys) → F all j rs p xs → F all j rs p ys
+
+module _ {E : Type 0} (dist : E → E → ℕ) where
+  fits-fewer : (ps : List (Sample E)) (rs : List Range) (p : Sample E) (xs ys : List (Sample E)) → ((P : Sample E → Type 0) → All P xs → All P ys) → Fits dist ps rs (p ∷ xs) → Fits dist ps rs (p ∷ ys)
+  fits-fewer [] [] p xs ys g f = tt
+  fits-fewer [] (r ∷ rs) p xs ys g f = f
+  fits-fewer (x ∷ ps) [] p xs ys g f = f
+  fits-fewer (x ∷ ps) (r ∷ rs) p xs ys g f = ((f .0 .0, g (Holds dist x r) (f .0 .1)), fits-fewer ps rs p xs ys g (f .1))
+
+  pub fit-fewer : Of-fewer (Ranges-fit dist)
+  fit-fewer all j rs p xs ys g f = fits-fewer all rs p xs ys g f
+
+  pub nearest-fewer : Of-fewer (Own-nearest dist)
+  nearest-fewer all j rs p xs ys g f = g (λ s. nearest (distances dist all s) ≡ j) f
 
 module _ {E : Type 0} (n : ℕ) where
   without-append : (xs ys : List (Sample E)) → without n (xs ++ ys) ≡ without n xs ++ without n ys
@@ -105,22 +123,20 @@ module _ {E : Type 0} (n : ℕ) where
             (shrunk-parts-all P rest (all-right P (members t) (gathered-parts always rest) (a .1)))
         )
 
-  -- the ranges hold
-  module _ (dist : E → E → ℕ) where
-    shrunk-fits : (ps : List (Sample E)) (rs : List Range) (p : Pivot E) (t : Tree E) → Fits dist ps rs (sample-of p ∷ members t) → Fits dist ps rs (sample-of (marked-at n p) ∷ members (shrunk n t))
-    shrunk-fits [] [] p t f = tt
-    shrunk-fits [] (r ∷ rs) p t f = f
-    shrunk-fits (x ∷ ps) [] p t f = f
-    shrunk-fits (x ∷ ps) (r ∷ rs) p t f = ((subst (Holds dist x r) (sym (marked-sample p)) (f .0 .0), shrunk-all (Holds dist x r) t (f .0 .1)), shrunk-fits ps rs p t (f .1))
-
+  -- what holds of fewer samples too holds throughout
+  module _ (F : Child-fact E) (fewer : Of-fewer F) where
     mutual
-      pub shrunk-ranged : (t : Tree E) → Ranged dist t → Ranged dist (shrunk n t)
-      shrunk-ranged (leaf xs) r = tt
-      shrunk-ranged (branch ps) r = subst (λ z. Throughout-parts (Fits dist) z (shrunk-parts n ps)) (sym (shrunk-pivots ps)) (shrunk-parts-ranged (pivots ps) ps r)
+      pub shrunk-throughout : (t : Tree E) → Throughout F t → Throughout F (shrunk n t)
+      shrunk-throughout (leaf xs) r = tt
+      shrunk-throughout (branch ps) r = subst (λ z. Throughout-parts F z 0 (shrunk-parts n ps)) (sym (shrunk-pivots ps)) (shrunk-parts-throughout (pivots ps) 0 ps r)
 
-      shrunk-parts-ranged : (all : List (Sample E)) (ps : Parts E) → Throughout-parts (Fits dist) all ps → Throughout-parts (Fits dist) all (shrunk-parts n ps)
-      shrunk-parts-ranged all none r = tt
-      shrunk-parts-ranged all (part p column t rest) r = (shrunk-fits all column p t (r .0), shrunk-ranged t (r .1), shrunk-parts-ranged all rest (r .2))
+      shrunk-parts-throughout : (all : List (Sample E)) (j : ℕ) (ps : Parts E) → Throughout-parts F all j ps → Throughout-parts F all j (shrunk-parts n ps)
+      shrunk-parts-throughout all j none r = tt
+      shrunk-parts-throughout all j (part p column t rest) r =
+          ( subst (λ z. F all j column z (members (shrunk n t))) (sym (marked-sample p)) (fewer all j column (sample-of p) (members t) (members (shrunk n t)) (λ P a. shrunk-all P t a) (r .0))
+          , shrunk-throughout t (r .1)
+          , shrunk-parts-throughout all (suc j) rest (r .2)
+          )
 
   mutual
     pub shrunk-branching : (degree : ℕ) (t : Tree E) → Branching degree t → Branching degree (shrunk n t)

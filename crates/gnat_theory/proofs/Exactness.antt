@@ -20,7 +20,7 @@ use Rattle.gnat_theory.specs.Tree.Tree.{leaf, branch}
 use Rattle.gnat_theory.specs.Tree.Parts.{none, part}
 use Rattle.gnat_theory.specs.Searching.{Want, State, Sight, start, nearest-hits, hits-within, struck, measure, measure-all, measure-pivot, sight-of, look, survey, searched, searched-open}
 use Rattle.gnat_theory.specs.Searching.Sight.{passed, seen}
-use Rattle.gnat_theory.specs.Ranges.{Throughout-parts, Fits, Ranged}
+use Rattle.gnat_theory.specs.Ranges.{Throughout-parts, Fits, Ranges-fit, Ranged}
 use Rattle.gnat_theory.specs.Shuffles.{Shuffle}
 use Rattle.gnat_theory.specs.Shuffles.Shuffle.{in-turn}
 use Rattle.gnat_theory.proofs.Ordering.{hits-sorted}
@@ -121,11 +121,11 @@ module _ {E : Type 0} (top : ℕ) (dist : E → E → ℕ) (laws : Metric-laws t
         (λ h. (measured-pivot p xs st e, sight-tells p (if-standing p ++ xs) (measure-pivot dist q w p st) (measured-pivot p xs st e)))
 
   -- all pivots of a branch
-  surveyed : (ps : Parts E) (done all : List (Sample E)) (ss : List Sight) (st : State) (xs : List (Sample E)) → done ++ pivots ps ≡ all → Throughout-parts (Fits dist) all ps → Sighted done ss xs → Counts xs st → Counts (with-pivots ps xs) (survey dist q w ps ss st .1) × Sighted all (survey dist q w ps ss st .0) (with-pivots ps xs)
-  surveyed none done all ss st xs i r t e = (e, subst (λ z. Sighted z ss xs) (sym (append-nil done) ∙ i) t)
-  surveyed (part p column c rest) done all ss st xs i r t e =
+  surveyed : (ps : Parts E) (j : ℕ) (done all : List (Sample E)) (ss : List Sight) (st : State) (xs : List (Sample E)) → done ++ pivots ps ≡ all → Throughout-parts (Ranges-fit dist) all j ps → Sighted done ss xs → Counts xs st → Counts (with-pivots ps xs) (survey dist q w ps ss st .1) × Sighted all (survey dist q w ps ss st .0) (with-pivots ps xs)
+  surveyed none j done all ss st xs i r t e = (e, subst (λ z. Sighted z ss xs) (sym (append-nil done) ∙ i) t)
+  surveyed (part p column c rest) j done all ss st xs i r t e =
       let l = looked p column c done (sample-of p ∷ pivots rest) ss st xs (subst (λ z. Fits dist z column (sample-of p ∷ members c)) (sym i) (r .0)) t e in
-      surveyed rest (done ++ (sample-of p ∷ [])) all (ss ++ (look dist q w p column ss st .0 ∷ [])) (look dist q w p column ss st .1) (if-standing p ++ xs)
+      surveyed rest (suc j) (done ++ (sample-of p ∷ [])) all (ss ++ (look dist q w p column ss st .0 ∷ [])) (look dist q w p column ss st .1) (if-standing p ++ xs)
         (append-assoc done (sample-of p ∷ []) (pivots rest) ∙ i) (r .2)
         (tell-push top dist laws q (Settled (if-standing p ++ xs)) done ss (sample-of p) (look dist q w p column ss st .0) (sighted-all done ss (if-standing p) xs t) (l .1)) (l .0)
 
@@ -133,16 +133,16 @@ module _ {E : Type 0} (top : ℕ) (dist : E → E → ℕ) (laws : Metric-laws t
     pub search-counts : (t : Tree E) (st : State) (xs : List (Sample E)) → Ranged dist t → Counts xs st → Counts (standing t ++ xs) (searched dist q w t st)
     search-counts (leaf ys) st xs r e = measured-all ys xs st e
     search-counts (branch ps) st xs r e =
-        let s = surveyed ps [] (pivots ps) [] st xs refl r tt e in
-        open-counts ps (pivots ps) (survey dist q w ps [] st .0) (survey dist q w ps [] st .1) (with-pivots ps xs) r (s .1) (s .0)
+        let s = surveyed ps 0 [] (pivots ps) [] st xs refl r tt e in
+        open-counts ps 0 (pivots ps) (survey dist q w ps [] st .0) (survey dist q w ps [] st .1) (with-pivots ps xs) r (s .1) (s .0)
         ∙ ap result (hits-shuffle dist q (with-children ps (with-pivots ps xs)) (gathered-parts if-standing ps ++ xs) (all-counted ps xs))
 
-    open-counts : (ps : Parts E) (all : List (Sample E)) (ss : List Sight) (st : State) (xs : List (Sample E)) → Throughout-parts (Fits dist) all ps → Sighted all ss xs → Counts xs st → Counts (with-children ps xs) (searched-open dist q w ps ss st)
-    open-counts none all ss st xs r t e = e
-    open-counts (part p column c rest) all ss st xs r t e =
+    open-counts : (ps : Parts E) (j : ℕ) (all : List (Sample E)) (ss : List Sight) (st : State) (xs : List (Sample E)) → Throughout-parts (Ranges-fit dist) all j ps → Sighted all ss xs → Counts xs st → Counts (with-children ps xs) (searched-open dist q w ps ss st)
+    open-counts none j all ss st xs r t e = e
+    open-counts (part p column c rest) j all ss st xs r t e =
         let before = with-children rest xs in
         let after = searched-open dist q w rest ss st in
-        let ih = open-counts rest all ss st xs (r .2) t e in
+        let ih = open-counts rest (suc j) all ss st xs (r .2) t e in
         cond-both (struck ss column) after (searched dist q w c after) (Counts (standing c ++ before))
           (λ h. ih ∙ sym (count-beyond (standing c) before (all-standing (Beyond top dist laws q (Settled before)) c
             (struck-beyond top dist laws q (Settled before) all [] ss column (sample-of p ∷ members c) (sighted-children all ss rest xs t) (subst (λ z. Fits dist z column (sample-of p ∷ members c)) (sym (append-nil all)) (r .0)) h .1))))

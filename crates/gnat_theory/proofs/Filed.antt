@@ -16,7 +16,8 @@ use Rattle.gnat_theory.specs.Tree.{Tree, Parts, Pivot, Range, sample-of, pivot
 use Rattle.gnat_theory.specs.Tree.Tree.{leaf, branch}
 use Rattle.gnat_theory.specs.Tree.Parts.{none, part}
 use Rattle.gnat_theory.specs.Filing.{least-place, nearest, widened, distances, filed, filed-under, filed-all}
-use Rattle.gnat_theory.specs.Ranges.{Throughout, Throughout-parts, Holds, Fits, Attained, Tight}
+use Rattle.gnat_theory.specs.Splitting.{points}
+use Rattle.gnat_theory.specs.Ranges.{Child-fact, Throughout, Throughout-parts, Holds, Fits, Attained, Tight, Ranges-fit, Ranges-tight, Own-nearest}
 use Rattle.gnat_theory.specs.Shapes.{Branching, Branching-parts, Leaves, Leaves-parts}
 use Rattle.gnat_theory.specs.Shuffles.{Shuffle}
 use Rattle.gnat_theory.specs.Shuffles.Shuffle.{after, swapped, in-turn}
@@ -44,14 +45,12 @@ module _ {E : Type 0} (dist : E → E → ℕ) where
   length-distances [] s = refl
   length-distances (p ∷ ps) s = ap suc (length-distances ps s)
 
-  -- a fact about the ranges of some pivots and the samples below a child
-  abbrev pub Column-fact : Type 1
-  Column-fact = List (Sample E) → List Range → List (Sample E) → Type 0
-
-  -- it does not hang on the order of the samples, and the widened ranges have it with one sample more
-  pub record Carries (C : Column-fact) : Type 0 where
-    pub reordered : (ps : List (Sample E)) (rs : List Range) (xs ys : List (Sample E)) → Shuffle (Sample E) xs ys → C ps rs xs → C ps rs ys
-    pub one-more : (ps : List (Sample E)) (rs : List Range) (s : Sample E) (xs : List (Sample E)) → C ps rs xs → C ps (widened rs (distances dist ps s)) (s ∷ xs)
+  -- A fact that filing carries on: the order of the samples does not matter to it, it stays with one more sample to which
+  -- the child's pivot is the nearest, the ranges widened, and it is there at the start.
+  pub record Carries (F : Child-fact E) : Type 0 where
+    pub reordered : (all : List (Sample E)) (j : ℕ) (rs : List Range) (p : Sample E) (xs ys : List (Sample E)) → Shuffle (Sample E) xs ys → F all j rs p xs → F all j rs p ys
+    pub one-more : (all : List (Sample E)) (j : ℕ) (rs : List Range) (p s : Sample E) (xs : List (Sample E)) → nearest (distances dist all s) ≡ j → F all j rs p xs → F all j (widened rs (distances dist all s)) p (s ∷ xs)
+    pub alone : (all : List (Sample E)) (j : ℕ) (p : Sample E) → F all j (points dist all p) p []
 
   fits-shuffle : (ps : List (Sample E)) (rs : List Range) (xs ys : List (Sample E)) → Shuffle (Sample E) xs ys → Fits dist ps rs xs → Fits dist ps rs ys
   fits-shuffle [] [] xs ys s f = tt
@@ -68,8 +67,16 @@ module _ {E : Type 0} (dist : E → E → ℕ) where
       let wide : Range = record { low = min (r .low) d; high = max (r .high) d } in
       (((omega arith, omega arith), all-weaker (Holds dist p r) (Holds dist p wide) (λ x h. (omega (arith, h .0), omega (arith, h .1))) xs (f .0)), fits-widened ps rs s xs (f .1))
 
-  pub fits-carries : Carries (Fits dist)
-  fits-carries = record { reordered = fits-shuffle; one-more = fits-widened }
+  fits-alone : (ps : List (Sample E)) (s : Sample E) → Fits dist ps (points dist ps s) (s ∷ [])
+  fits-alone [] s = tt
+  fits-alone (p ∷ ps) s = (((omega arith, omega arith), tt), fits-alone ps s)
+
+  pub fit-carries : Carries (Ranges-fit dist)
+  fit-carries = record
+    { reordered = λ all j rs p xs ys s f. fits-shuffle all rs (p ∷ xs) (p ∷ ys) (after p xs ys s) f
+    ; one-more = λ all j rs p s xs e f. fits-shuffle all (widened rs (distances dist all s)) (s ∷ (p ∷ xs)) (p ∷ (s ∷ xs)) (swapped s p xs) (fits-widened all rs s (p ∷ xs) f)
+    ; alone = λ all j p. fits-alone all p
+    }
 
   attained-shuffle : (p : Sample E) (d : ℕ) (xs ys : List (Sample E)) → Shuffle (Sample E) xs ys → Attained dist p d xs → Attained dist p d ys
   attained-shuffle p d xs ys s a = (a .0, among-shuffle (a .0) xs ys s (a .1), a .2)
@@ -104,8 +111,23 @@ module _ {E : Type 0} (dist : E → E → ℕ) where
       , tight-widened ps rs s xs (f .1)
       )
 
-  pub tight-carries : Carries (Tight dist)
-  tight-carries = record { reordered = tight-shuffle; one-more = tight-widened }
+  tight-alone : (ps : List (Sample E)) (s : Sample E) → Tight dist ps (points dist ps s) (s ∷ [])
+  tight-alone [] s = tt
+  tight-alone (p ∷ ps) s = (((s, inl refl, refl), (s, inl refl, refl)), tight-alone ps s)
+
+  pub tight-carries : Carries (Ranges-tight dist)
+  tight-carries = record
+    { reordered = λ all j rs p xs ys s f. tight-shuffle all rs (p ∷ xs) (p ∷ ys) (after p xs ys s) f
+    ; one-more = λ all j rs p s xs e f. tight-shuffle all (widened rs (distances dist all s)) (s ∷ (p ∷ xs)) (p ∷ (s ∷ xs)) (swapped s p xs) (tight-widened all rs s (p ∷ xs) f)
+    ; alone = λ all j p. tight-alone all p
+    }
+
+  pub nearest-carries : Carries (Own-nearest dist)
+  nearest-carries = record
+    { reordered = λ all j rs p xs ys s f. all-shuffle (λ x. nearest (distances dist all x) ≡ j) xs ys s f
+    ; one-more = λ all j rs p s xs e f. (e, f)
+    ; alone = λ all j p. tt
+    }
 
   module _ (grown : List (Sample E) → Tree E) where
     pub filed-pivots : (s : Sample E) (ds : List ℕ) (n : ℕ) (ps : Parts E) → pivots (filed-under dist grown s ds n ps) ≡ pivots ps
@@ -158,28 +180,26 @@ module _ {E : Type 0} (dist : E → E → ℕ) where
                 (in-turn (x ++ h) (x ++ (s ∷ g)) (s ∷ (x ++ g)) (shuffle-behind x h (s ∷ g) (filed-under-gathered s ds n rest (omega arith) (b .1))) (shuffle-front x s g)))
               (shuffle-front o s (x ++ g))
 
-    -- what holds throughout and survives widening and a new order holds throughout
-    module _ (C : Column-fact) (carries : Carries C) (same : (xs : List (Sample E)) → Shuffle (Sample E) (members (grown xs)) xs) (throughout : (xs : List (Sample E)) → Throughout C (grown xs)) (degree : ℕ) (some : 1 ≤ degree) where
+    -- what filing carries on holds throughout
+    module _ (F : Child-fact E) (carries : Carries F) (same : (xs : List (Sample E)) → Shuffle (Sample E) (members (grown xs)) xs) (throughout : (xs : List (Sample E)) → Throughout F (grown xs)) (degree : ℕ) (some : 1 ≤ degree) where
       mutual
-        pub filed-throughout : (s : Sample E) (t : Tree E) → Branching degree t → Throughout C t → Throughout C (filed dist grown s t)
+        pub filed-throughout : (s : Sample E) (t : Tree E) → Branching degree t → Throughout F t → Throughout F (filed dist grown s t)
         filed-throughout s (leaf xs) b r = throughout (xs ++ (s ∷ []))
         filed-throughout s (branch ps) b r =
             let ds = distances dist (pivots ps) s in
-            subst (λ z. Throughout-parts C z (filed-under dist grown s ds (nearest ds) ps)) (sym (filed-pivots s ds (nearest ds) ps)) (filed-under-throughout s (pivots ps) (nearest ds) ps (b .1) r)
+            subst (λ z. Throughout-parts F z 0 (filed-under dist grown s ds (nearest ds) ps)) (sym (filed-pivots s ds (nearest ds) ps)) (filed-under-throughout s (pivots ps) 0 (nearest ds) ps (omega arith) (b .1) r)
 
-        filed-under-throughout : (s : Sample E) (all : List (Sample E)) (n : ℕ) (ps : Parts E) → Branching-parts degree ps → Throughout-parts C all ps → Throughout-parts C all (filed-under dist grown s (distances dist all s) n ps)
-        filed-under-throughout s all n none b r = tt
-        filed-under-throughout s all zero (part p column t rest) b r =
-            let q = sample-of p in
+        filed-under-throughout : (s : Sample E) (all : List (Sample E)) (j n : ℕ) (ps : Parts E) → nearest (distances dist all s) ≡ j + n → Branching-parts degree ps → Throughout-parts F all j ps → Throughout-parts F all j (filed-under dist grown s (distances dist all s) n ps)
+        filed-under-throughout s all j n none e b r = tt
+        filed-under-throughout s all j zero (part p column t rest) e b r =
             let x = members t in
             let y = members (filed dist grown s t) in
-            ( carries .reordered all (widened column (distances dist all s)) (s ∷ (q ∷ x)) (q ∷ y)
-                (in-turn (s ∷ (q ∷ x)) (q ∷ (s ∷ x)) (q ∷ y) (swapped s q x) (after q (s ∷ x) y (shuffle-back y (s ∷ x) (filed-gathered always same degree some s t (b .0)))))
-                (carries .one-more all column s (q ∷ x) (r .0))
+            ( carries .reordered all j (widened column (distances dist all s)) (sample-of p) (s ∷ x) y (shuffle-back y (s ∷ x) (filed-gathered always same degree some s t (b .0)))
+                (carries .one-more all j column (sample-of p) s x (omega arith) (r .0))
             , filed-throughout s t (b .0) (r .1)
             , r .2
             )
-        filed-under-throughout s all (suc n) (part p column t rest) b r = (r .0, r .1, filed-under-throughout s all n rest (b .1) (r .2))
+        filed-under-throughout s all j (suc n) (part p column t rest) e b r = (r .0, r .1, filed-under-throughout s all (suc j) n rest (omega arith) (b .1) (r .2))
 
 module _ {E : Type 0} (low high : ℕ) (more : low ≤ high) where
   mutual
@@ -219,7 +239,7 @@ module _ {E : Type 0} (dist : E → E → ℕ) (grown : List (Sample E) → Tree
         in-turn z (xs ++ y) (s ∷ (xs ++ x)) (filed-all-gathered xs (filed dist grown s t) (filed-branching dist grown degree branching s t b))
           (in-turn (xs ++ y) (xs ++ (s ∷ x)) (s ∷ (xs ++ x)) (shuffle-behind xs y (s ∷ x) (filed-gathered dist grown of-pivot same degree some s t b)) (shuffle-front xs s x))
 
-  module _ (some : 1 ≤ degree) (C : Column-fact dist) (carries : Carries dist C) (same : (xs : List (Sample E)) → Shuffle (Sample E) (members (grown xs)) xs) (throughout : (xs : List (Sample E)) → Throughout C (grown xs)) where
-    pub filed-all-throughout : (xs : List (Sample E)) (t : Tree E) → Branching degree t → Throughout C t → Throughout C (filed-all dist grown xs t)
+  module _ (some : 1 ≤ degree) (F : Child-fact E) (carries : Carries dist F) (same : (xs : List (Sample E)) → Shuffle (Sample E) (members (grown xs)) xs) (throughout : (xs : List (Sample E)) → Throughout F (grown xs)) where
+    pub filed-all-throughout : (xs : List (Sample E)) (t : Tree E) → Branching degree t → Throughout F t → Throughout F (filed-all dist grown xs t)
     filed-all-throughout [] t b r = r
-    filed-all-throughout (s ∷ xs) t b r = filed-all-throughout xs (filed dist grown s t) (filed-branching dist grown degree branching s t b) (filed-throughout dist grown C carries same throughout degree some s t b r)
+    filed-all-throughout (s ∷ xs) t b r = filed-all-throughout xs (filed dist grown s t) (filed-branching dist grown degree branching s t b) (filed-throughout dist grown F carries same throughout degree some s t b r)

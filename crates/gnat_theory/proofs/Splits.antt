@@ -1,7 +1,6 @@
 -- Splitting a leaf: which pivots it takes, and what the branch then holds. Assumes nothing.
 use mathlib.Core.Bool.{Bool, true, false, cond}
 use mathlib.Core.List.{List, [], _∷_, _++_}
-use mathlib.Core.Logic.{inl}
 use mathlib.Core.Path.{_≡_, refl, sym, ap, subst, _∙_}
 use Prim.Native.Nat.{ℕ, zero, suc, _+_, _≤_, _<_}
 use native.Mathlib.Omega.{arith}
@@ -14,13 +13,13 @@ use Rattle.gnat_theory.specs.Tree.{Tree, Parts, Pivot, Range, fresh-pivot, piv
 use Rattle.gnat_theory.specs.Tree.Tree.{leaf, branch}
 use Rattle.gnat_theory.specs.Tree.Parts.{none, part}
 use Rattle.gnat_theory.specs.Filing.{filed, filed-all}
-use Rattle.gnat_theory.specs.Splitting.{best, farther, chosen, points, bare, split, kept-or-split}
-use Rattle.gnat_theory.specs.Ranges.{Throughout, Throughout-parts, Fits, Tight}
+use Rattle.gnat_theory.specs.Splitting.{best, farther, chosen, bare, split, kept-or-split}
+use Rattle.gnat_theory.specs.Ranges.{Child-fact, Throughout, Throughout-parts}
 use Rattle.gnat_theory.specs.Shapes.{Branching, Branching-parts, Leaves, Leaves-parts}
 use Rattle.gnat_theory.specs.Shuffles.{Shuffle}
 use Rattle.gnat_theory.specs.Shuffles.Shuffle.{after, swapped, in-turn}
 use Rattle.gnat_theory.proofs.Shuffling.{same-order, shuffle-equal, shuffle-behind, shuffle-parts, length-shuffle}
-use Rattle.gnat_theory.proofs.Filed.{Column-fact, Carries, leaves-more, filed-leaves, filed-all-branching, filed-all-gathered, filed-all-throughout}
+use Rattle.gnat_theory.proofs.Filed.{Carries, leaves-more, filed-leaves, filed-all-branching, filed-all-gathered, filed-all-throughout}
 
 -- the best and the others are all
 pub best-shuffle : {X : Type 0} (before : X → X → Bool) (x : X) (xs : List X) → Shuffle X (best before x xs .0 ∷ best before x xs .1) (x ∷ xs)
@@ -75,18 +74,9 @@ module _ {E : Type 0} (dist : E → E → ℕ) where
   bare-leaves ps [] = tt
   bare-leaves ps (s ∷ qs) = (omega arith, bare-leaves ps qs)
 
-  module _ (C : Column-fact dist) (alone : (ps : List (Sample E)) (s : Sample E) → C ps (points dist ps s) (s ∷ [])) where
-    bare-throughout : (ps qs : List (Sample E)) → Throughout-parts C ps (bare dist ps qs)
-    bare-throughout ps [] = tt
-    bare-throughout ps (s ∷ qs) = (alone ps s, tt, bare-throughout ps qs)
-
-  pub fits-alone : (ps : List (Sample E)) (s : Sample E) → Fits dist ps (points dist ps s) (s ∷ [])
-  fits-alone [] s = tt
-  fits-alone (p ∷ ps) s = (((omega arith, omega arith), tt), fits-alone ps s)
-
-  pub tight-alone : (ps : List (Sample E)) (s : Sample E) → Tight dist ps (points dist ps s) (s ∷ [])
-  tight-alone [] s = tt
-  tight-alone (p ∷ ps) s = (((s, inl refl, refl), (s, inl refl, refl)), tight-alone ps s)
+  bare-throughout : (F : Child-fact E) → Carries dist F → (j : ℕ) (ps qs : List (Sample E)) → Throughout-parts F ps j (bare dist ps qs)
+  bare-throughout F carries j ps [] = tt
+  bare-throughout F carries j ps (s ∷ qs) = (carries .alone ps j s, tt, bare-throughout F carries (suc j) ps qs)
 
   leaf-filed-leaves : (most : ℕ) (xs : List (Sample E)) (t : Tree E) → Leaves most t → Leaves (most + length xs) (filed-all dist leaf xs t)
   leaf-filed-leaves most [] t l = subst (λ z. Leaves z t) (omega arith) l
@@ -142,11 +132,11 @@ module _ {E : Type 0} (dist : E → E → ℕ) where
         let n : length b ≡ 0 = ap length (bare-none (c .0) (c .0)) in
         omega (arith, others-number degree xs enough, length-append (c .1) b, length-shuffle (gathered (λ p. []) (split dist degree xs)) (c .1 ++ b) (split-gathers (λ p. [])))
 
-    pub split-throughout : (C : Column-fact dist) → Carries dist C → ((ps : List (Sample E)) (s : Sample E) → C ps (points dist ps s) (s ∷ [])) → Throughout C (split dist degree xs)
-    split-throughout C carries alone =
+    pub split-throughout : (F : Child-fact E) → Carries dist F → Throughout F (split dist degree xs)
+    split-throughout F carries =
         let c = chosen dist degree [] xs in
-        filed-all-throughout dist leaf degree (λ ys. tt) some C carries (λ ys. same-order ys) (λ ys. tt) (c .1) (branch (bare dist (c .0) (c .0))) start-branching
-          (subst (λ z. Throughout-parts C z (bare dist (c .0) (c .0))) (sym (bare-pivots (c .0) (c .0))) (bare-throughout C alone (c .0) (c .0)))
+        filed-all-throughout dist leaf degree (λ ys. tt) some F carries (λ ys. same-order ys) (λ ys. tt) (c .1) (branch (bare dist (c .0) (c .0))) start-branching
+          (subst (λ z. Throughout-parts F z 0 (bare dist (c .0) (c .0))) (sym (bare-pivots (c .0) (c .0))) (bare-throughout F carries 0 (c .0) (c .0)))
 
 -- a leaf with one more sample, split if it is too large
 module _ {E : Type 0} (dist : E → E → ℕ) (degree bucket : ℕ) (some : 1 ≤ degree) (room : degree ≤ bucket) where
@@ -167,5 +157,5 @@ module _ {E : Type 0} (dist : E → E → ℕ) (degree bucket : ℕ) (some : 1 �
   pub grown-gathered : (of-pivot : Pivot E → List (Sample E)) → ((s : Sample E) → of-pivot (fresh-pivot s) ≡ s ∷ []) → (xs : List (Sample E)) → Shuffle (Sample E) (gathered of-pivot (kept-or-split dist degree bucket xs)) xs
   grown-gathered of-pivot fresh xs = either (λ t. Shuffle (Sample E) (gathered of-pivot t) xs) xs (λ l. same-order xs) (λ l. split-gathered dist degree some xs (omega arith) of-pivot fresh)
 
-  pub grown-throughout : (C : Column-fact dist) → Carries dist C → ((ps : List (Sample E)) (s : Sample E) → C ps (points dist ps s) (s ∷ [])) → (xs : List (Sample E)) → Throughout C (kept-or-split dist degree bucket xs)
-  grown-throughout C carries alone xs = either (Throughout C) xs (λ l. tt) (λ l. split-throughout dist degree some xs (omega arith) C carries alone)
+  pub grown-throughout : (F : Child-fact E) → Carries dist F → (xs : List (Sample E)) → Throughout F (kept-or-split dist degree bucket xs)
+  grown-throughout F carries xs = either (Throughout F) xs (λ l. tt) (λ l. split-throughout dist degree some xs (omega arith) F carries)
