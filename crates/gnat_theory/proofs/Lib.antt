@@ -11,3 +11,4 @@ pub mod Turns
 pub mod Filed
 pub mod Splits
 pub mod Drops
+pub mod Choosing

@@ -7,3 +7,4 @@ pub mod Pending
 pub mod Ranges
 pub mod Shapes
 pub mod Shuffles
+pub mod Rules
