@@ -11,15 +11,16 @@ use Rattle.std.proofs.shelf.Tests.{cond-both, cond-true, cond-false}
 use Rattle.std.proofs.shelf.Elements.{all-append}
 use Rattle.hits.specs.Samples.{Sample}
 use Rattle.index.specs.Meaning.{without}
-use Rattle.gnat_theory.specs.Tree.{Tree, Parts, Pivot, Range, sample-of, pivots, gathered-parts, if-standing, always, standing, members}
+use Rattle.gnat_theory.specs.Tree.{Tree, Parts, Pivot, Range, sample-of, pivots, gathered, gathered-parts, if-standing, always, standing, members}
 use Rattle.gnat_theory.specs.Tree.Tree.{leaf, branch}
 use Rattle.gnat_theory.specs.Tree.Parts.{none, part}
 use Rattle.gnat_theory.specs.Dropping.{marked-at, shrunk, shrunk-parts}
 use Rattle.gnat_theory.specs.Filing.{nearest, distances}
 use Rattle.gnat_theory.specs.Ranges.{Child-fact, Throughout, Throughout-parts, Holds, Fits, Ranges-fit, Own-nearest}
-use Rattle.gnat_theory.specs.Shapes.{Branching, Branching-parts, Leaves, Leaves-parts}
+use Rattle.gnat_theory.specs.Shapes.{Branching, Branching-parts, Leaves, Leaves-parts, pivot-count, part-count}
 use Rattle.gnat_theory.specs.Shuffles.{Shuffle}
 use Rattle.gnat_theory.specs.Shuffles.Shuffle.{nothing, after, swapped, in-turn}
+use Rattle.gnat_theory.specs.Claims.{in-leaves}
 use Rattle.gnat_theory.proofs.Shuffling.{same-order}
 use Rattle.gnat_theory.proofs.Gathering.{all-left, all-right}
 
@@ -89,20 +90,36 @@ module _ {E : Type 0} (n : ℕ) where
       stays e true = refl
       stays e false = sym (cond-false (eqb (p .number) n) [] (sample-of p ∷ []) e)
 
-  -- those that stand are those without n, in their order
-  mutual
-    pub shrunk-standing : (t : Tree E) → standing (shrunk n t) ≡ without n (standing t)
-    shrunk-standing (leaf xs) = refl
-    shrunk-standing (branch ps) = shrunk-parts-standing ps
+  -- what is left are those without n, in their order
+  module _ (of-pivot : Pivot E → List (Sample E)) (marked : (p : Pivot E) → of-pivot (marked-at n p) ≡ without n (of-pivot p)) where
+    mutual
+      pub shrunk-gathered : (t : Tree E) → gathered of-pivot (shrunk n t) ≡ without n (gathered of-pivot t)
+      shrunk-gathered (leaf xs) = refl
+      shrunk-gathered (branch ps) = shrunk-parts-gathered ps
 
-    shrunk-parts-standing : (ps : Parts E) → gathered-parts if-standing (shrunk-parts n ps) ≡ without n (gathered-parts if-standing ps)
-    shrunk-parts-standing none = refl
-    shrunk-parts-standing (part p column t rest) =
-        let o = if-standing p in
-        let x = standing t in
-        let g = gathered-parts if-standing rest in
-        ap₂ (λ y z. y ++ z) (marked-standing p) (ap₂ (λ y z. y ++ z) (shrunk-standing t) (shrunk-parts-standing rest))
-        ∙ sym (without-append o (x ++ g) ∙ ap (λ z. without n o ++ z) (without-append x g))
+      shrunk-parts-gathered : (ps : Parts E) → gathered-parts of-pivot (shrunk-parts n ps) ≡ without n (gathered-parts of-pivot ps)
+      shrunk-parts-gathered none = refl
+      shrunk-parts-gathered (part p column t rest) =
+          let o = of-pivot p in
+          let x = gathered of-pivot t in
+          let g = gathered-parts of-pivot rest in
+          ap₂ (λ y z. y ++ z) (marked p) (ap₂ (λ y z. y ++ z) (shrunk-gathered t) (shrunk-parts-gathered rest))
+          ∙ sym (without-append o (x ++ g) ∙ ap (λ z. without n o ++ z) (without-append x g))
+
+  pub shrunk-standing : (t : Tree E) → standing (shrunk n t) ≡ without n (standing t)
+  shrunk-standing t = shrunk-gathered if-standing marked-standing t
+
+  pub shrunk-in-leaves : (t : Tree E) → in-leaves (shrunk n t) ≡ without n (in-leaves t)
+  shrunk-in-leaves t = shrunk-gathered (λ p. []) (λ p. refl) t
+
+  mutual
+    pub shrunk-count : (t : Tree E) → pivot-count (shrunk n t) ≡ pivot-count t
+    shrunk-count (leaf xs) = refl
+    shrunk-count (branch ps) = shrunk-parts-count ps
+
+    shrunk-parts-count : (ps : Parts E) → part-count (shrunk-parts n ps) ≡ part-count ps
+    shrunk-parts-count none = refl
+    shrunk-parts-count (part p column t rest) = omega (arith, shrunk-count t, shrunk-parts-count rest)
 
   shrunk-pivots : (ps : Parts E) → pivots (shrunk-parts n ps) ≡ pivots ps
   shrunk-pivots none = refl

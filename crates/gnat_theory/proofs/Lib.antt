@@ -12,3 +12,5 @@ pub mod Filed
 pub mod Splits
 pub mod Drops
 pub mod Choosing
+pub mod Listing
+pub mod Theorems

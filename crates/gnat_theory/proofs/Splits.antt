@@ -62,7 +62,7 @@ module _ {E : Type 0} (dist : E → E → ℕ) where
       let c = chosen dist n [] xs in
       omega (arith, pivot-number n xs l, length-append (c .0) (c .1), length-shuffle (c .0 ++ c .1) xs (chosen-shuffle n [] xs))
 
-  bare-pivots : (ps qs : List (Sample E)) → pivots (bare dist ps qs) ≡ qs
+  pub bare-pivots : (ps qs : List (Sample E)) → pivots (bare dist ps qs) ≡ qs
   bare-pivots ps [] = refl
   bare-pivots ps (s ∷ qs) = ap (λ z. s ∷ z) (bare-pivots ps qs)
 

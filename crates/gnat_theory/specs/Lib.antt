@@ -8,3 +8,4 @@ pub mod Ranges
 pub mod Shapes
 pub mod Shuffles
 pub mod Rules
+pub mod Claims
