@@ -30,8 +30,8 @@ least-first ds j d i (x ∷ xs) here below all rest least first =
     let at : getD ds i 0 ≡ x = ap (λ z. getD ds z 0) back ∙ rest 0 in
     let next : (k : ℕ) → getD ds (suc i + k) 0 ≡ getD xs k 0 = λ k. ap (λ z. getD ds z 0) (omega arith) ∙ rest (suc k) in
     cond-both (ltb x d) (least-place i x (suc i) xs) (least-place j d (suc i) xs) (First-least ds)
-      (λ e. let l = ltb-true x d e in least-first ds i x (suc i) xs at (omega arith) (omega arith) next (upto x (λ k m. omega (arith, least k m)) (omega arith)) (λ k m. omega (arith, least k m)))
-      (λ e. let l = ltb-false x d e in least-first ds j d (suc i) xs here (omega arith) (omega arith) next (upto d least (omega arith)) first)
+    (λ e. let l = ltb-true x d e in least-first ds i x (suc i) xs at (omega arith) (omega arith) next (upto x (λ k m. omega (arith, least k m)) (omega arith)) (λ k m. omega (arith, least k m)))
+    (λ e. let l = ltb-false x d e in least-first ds j d (suc i) xs here (omega arith) (omega arith) next (upto d least (omega arith)) first)
   where
     upto : (m : ℕ) → ((k : ℕ) → k < i → m ≤ getD ds k 0) → m ≤ getD ds i 0 → (k : ℕ) → k < suc i → m ≤ getD ds k 0
     upto m f g k l = ⊎-elim (λ h. f k h) (λ h. subst (λ z. m ≤ getD ds z 0) (omega arith) g) (cases-lt k i)
@@ -41,8 +41,8 @@ pub nearest-first : (ds : List ℕ) → 0 < length ds → First-least ds (neares
 nearest-first [] l = absurd (omega arith)
 nearest-first (d ∷ ds) l =
     least-first (d ∷ ds) 0 d 1 ds refl (omega arith) (omega arith) (λ k. let e : 1 + k ≡ suc k = omega arith in ap (λ z. getD (d ∷ ds) z 0) e)
-      (λ k m. let e : 0 ≡ k = omega arith in subst (λ z. d ≤ getD (d ∷ ds) z 0) e (le-refl d))
-      (λ k m. absurd (omega arith))
+    (λ k m. let e : 0 ≡ k = omega arith in subst (λ z. d ≤ getD (d ∷ ds) z 0) e (le-refl d))
+    (λ k m. absurd (omega arith))
 
 -- an order, but for ties
 record Ranking {X : Type 0} (before : X → X → Bool) : Type 0 where
@@ -57,8 +57,8 @@ module _ {X : Type 0} (before : X → X → Bool) (ranking : Ranking before) whe
       let rest = best before y ys .1 in
       let ih = best-taken y ys in
       cond-both {A = X × List X} (before b x) (b, x ∷ rest) (x, y ∷ ys) (λ r. Taken-out (r .0) (x ∷ (y ∷ ys)) (r .1))
-        (λ e. (x ∷ ih .0, ih .1, ap (λ z. x ∷ z) (ih .2), ap (λ z. x ∷ z) (ih .3)))
-        (λ e. ([], y ∷ ys, refl, refl))
+      (λ e. (x ∷ ih .0, ih .1, ap (λ z. x ∷ z) (ih .2), ap (λ z. x ∷ z) (ih .3)))
+      (λ e. ([], y ∷ ys, refl, refl))
 
   best-first : (x : X) (xs : List X) → All (λ y. before y (best before x xs .0) ≡ false) (best before x xs .1)
   best-first x [] = tt
@@ -67,9 +67,9 @@ module _ {X : Type 0} (before : X → X → Bool) (ranking : Ranking before) whe
       let rest = best before y ys .1 in
       let ih = best-first y ys in
       cond-both {A = X × List X} (before b x) (b, x ∷ rest) (x, y ∷ ys) (λ r. All (λ z. before z (r .0) ≡ false) (r .1))
-        (λ e. (ranking .one-way b x e, ih))
-        (λ e. all-shuffle (λ z. before z x ≡ false) (b ∷ rest) (y ∷ ys) (best-shuffle before y ys)
-          (e, all-weaker (λ z. before z b ≡ false) (λ z. before z x ≡ false) (λ z h. ranking .chain z b x h e) rest ih))
+      (λ e. (ranking .one-way b x e, ih))
+      (λ e. all-shuffle (λ z. before z x ≡ false) (b ∷ rest) (y ∷ ys) (best-shuffle before y ys)
+      (e, all-weaker (λ z. before z b ≡ false) (λ z. before z x ≡ false) (λ z h. ranking .chain z b x h e) rest ih))
 
 module _ {E : Type 0} (dist : E → E → ℕ) (ps : List (Sample E)) where
   farther-one-way : (x y : Sample E) → farther dist ps x y ≡ true → farther dist ps y x ≡ false
@@ -106,10 +106,10 @@ module _ {E : Type 0} (dist : E → E → ℕ) where
       let before = farther dist ps in
       let b = best before x xs .0 in
       let rest = best before x xs .1 in
-      let ih = chosen-by-rule n (ps ++ (b ∷ [])) rest in
-      ( b ∷ ih .0
-      , ih .1 ∙ append-assoc ps (b ∷ []) (ih .0)
-      , (rest, best-taken before (farther-ranking dist ps) x xs, all-weaker (λ y. before y b ≡ false) (No-better dist ps b) (λ y e. no-better dist ps b y e) rest (best-first before (farther-ranking dist ps) x xs), ih .2)
+      let ih = chosen-by-rule n (ps ++ (b ∷ [])) rest in (
+        b ∷ ih .0,
+        ih .1 ∙ append-assoc ps (b ∷ []) (ih .0),
+        (rest, best-taken before (farther-ranking dist ps) x xs, all-weaker (λ y. before y b ≡ false) (No-better dist ps b) (λ y e. no-better dist ps b y e) rest (best-first before (farther-ranking dist ps) x xs), ih .2),
       )
 
   pub chooses : (n : ℕ) (xs : List (Sample E)) → Chooses dist [] (chosen dist n [] xs .0) xs (chosen dist n [] xs .1)

@@ -86,6 +86,7 @@ module _ {E : Type 0} (n : ℕ) where
       gone : eqb (p .number) n ≡ true → (m : Bool) → [] ≡ without n (cond m [] (sample-of p ∷ []))
       gone e true = refl
       gone e false = sym (cond-true (eqb (p .number) n) [] (sample-of p ∷ []) e)
+
       stays : eqb (p .number) n ≡ false → (m : Bool) → cond m [] (sample-of p ∷ []) ≡ without n (cond m [] (sample-of p ∷ []))
       stays e true = refl
       stays e false = sym (cond-false (eqb (p .number) n) [] (sample-of p ∷ []) e)
@@ -133,12 +134,12 @@ module _ {E : Type 0} (n : ℕ) where
 
     shrunk-parts-all : (P : Sample E → Type 0) (ps : Parts E) → All P (gathered-parts always ps) → All P (gathered-parts always (shrunk-parts n ps))
     shrunk-parts-all P none a = tt
-    shrunk-parts-all P (part p column t rest) a =
-        ( subst P (sym (marked-sample p)) (a .0)
-        , all-append P (members (shrunk n t)) (gathered-parts always (shrunk-parts n rest))
-            (shrunk-all P t (all-left P (members t) (gathered-parts always rest) (a .1)))
-            (shrunk-parts-all P rest (all-right P (members t) (gathered-parts always rest) (a .1)))
-        )
+    shrunk-parts-all P (part p column t rest) a = (
+      subst P (sym (marked-sample p)) (a .0),
+      all-append P (members (shrunk n t)) (gathered-parts always (shrunk-parts n rest))
+          (shrunk-all P t (all-left P (members t) (gathered-parts always rest) (a .1)))
+          (shrunk-parts-all P rest (all-right P (members t) (gathered-parts always rest) (a .1))),
+    )
 
   -- what holds of fewer samples too holds throughout
   module _ (F : Child-fact E) (fewer : Of-fewer F) where
@@ -149,11 +150,11 @@ module _ {E : Type 0} (n : ℕ) where
 
       shrunk-parts-throughout : (all : List (Sample E)) (j : ℕ) (ps : Parts E) → Throughout-parts F all j ps → Throughout-parts F all j (shrunk-parts n ps)
       shrunk-parts-throughout all j none r = tt
-      shrunk-parts-throughout all j (part p column t rest) r =
-          ( subst (λ z. F all j column z (members (shrunk n t))) (sym (marked-sample p)) (fewer all j column (sample-of p) (members t) (members (shrunk n t)) (λ P a. shrunk-all P t a) (r .0))
-          , shrunk-throughout t (r .1)
-          , shrunk-parts-throughout all (suc j) rest (r .2)
-          )
+      shrunk-parts-throughout all j (part p column t rest) r = (
+        subst (λ z. F all j column z (members (shrunk n t))) (sym (marked-sample p)) (fewer all j column (sample-of p) (members t) (members (shrunk n t)) (λ P a. shrunk-all P t a) (r .0)),
+        shrunk-throughout t (r .1),
+        shrunk-parts-throughout all (suc j) rest (r .2),
+      )
 
   mutual
     pub shrunk-branching : (degree : ℕ) (t : Tree E) → Branching degree t → Branching degree (shrunk n t)

@@ -49,9 +49,9 @@ module _ {E : Type 0} where
       let g = gathered-parts if-standing rest in
       let c = with-children rest (with-pivots rest (o ++ xs)) in
       in-turn (s ++ c) (s ++ (g ++ (o ++ xs))) ((o ++ (s ++ g)) ++ xs)
-        (shuffle-behind s c (g ++ (o ++ xs)) (all-counted rest (o ++ xs)))
-        (subst (λ z. Shuffle (Sample E) z ((o ++ (s ++ g)) ++ xs)) (append-assoc s g (o ++ xs))
-          (subst (Shuffle (Sample E) ((s ++ g) ++ (o ++ xs))) (sym (append-assoc o (s ++ g) xs)) (shuffle-middle (s ++ g) o xs)))
+      (shuffle-behind s c (g ++ (o ++ xs)) (all-counted rest (o ++ xs)))
+      (subst (λ z. Shuffle (Sample E) z ((o ++ (s ++ g)) ++ xs)) (append-assoc s g (o ++ xs))
+      (subst (Shuffle (Sample E) ((s ++ g) ++ (o ++ xs))) (sym (append-assoc o (s ++ g) xs)) (shuffle-middle (s ++ g) o xs)))
 
 module _ {E : Type 0} (top : ℕ) (dist : E → E → ℕ) (laws : Metric-laws top dist) (q : E) (w : Want) (result : List Hit → List Hit) (keeps : Keeps w result) where
   -- the state has kept what is wanted of these samples
@@ -116,9 +116,9 @@ module _ {E : Type 0} (top : ℕ) (dist : E → E → ℕ) (laws : Metric-laws t
   looked : (p : Pivot E) (column : List Range) (c : Tree E) (done more : List (Sample E)) (ss : List Sight) (st : State) (xs : List (Sample E)) → Fits dist (done ++ more) column (sample-of p ∷ members c) → Sighted done ss xs → Counts xs st → Counts (if-standing p ++ xs) (look dist q w p column ss st .1) × Tells top dist laws q (Settled (if-standing p ++ xs)) (sample-of p) (look dist q w p column ss st .0)
   looked p column c done more ss st xs f t e =
       cond-both {A = Sight × State} (struck ss column) (passed, st) (sight-of dist q w p (measure-pivot dist q w p st), measure-pivot dist q w p st)
-        (λ r. Counts (if-standing p ++ xs) (r .1) × Tells top dist laws q (Settled (if-standing p ++ xs)) (sample-of p) (r .0))
-        (λ h. (e ∙ sym (count-beyond (if-standing p) xs (all-if-standing (Beyond top dist laws q (Settled xs)) p (struck-beyond top dist laws q (Settled xs) done more ss column (sample-of p ∷ members c) t f h .0))), tt))
-        (λ h. (measured-pivot p xs st e, sight-tells p (if-standing p ++ xs) (measure-pivot dist q w p st) (measured-pivot p xs st e)))
+      (λ r. Counts (if-standing p ++ xs) (r .1) × Tells top dist laws q (Settled (if-standing p ++ xs)) (sample-of p) (r .0))
+      (λ h. (e ∙ sym (count-beyond (if-standing p) xs (all-if-standing (Beyond top dist laws q (Settled xs)) p (struck-beyond top dist laws q (Settled xs) done more ss column (sample-of p ∷ members c) t f h .0))), tt))
+      (λ h. (measured-pivot p xs st e, sight-tells p (if-standing p ++ xs) (measure-pivot dist q w p st) (measured-pivot p xs st e)))
 
   -- all pivots of a branch
   surveyed : (ps : Parts E) (j : ℕ) (done all : List (Sample E)) (ss : List Sight) (st : State) (xs : List (Sample E)) → done ++ pivots ps ≡ all → Throughout-parts (Ranges-fit dist) all j ps → Sighted done ss xs → Counts xs st → Counts (with-pivots ps xs) (survey dist q w ps ss st .1) × Sighted all (survey dist q w ps ss st .0) (with-pivots ps xs)
@@ -126,8 +126,8 @@ module _ {E : Type 0} (top : ℕ) (dist : E → E → ℕ) (laws : Metric-laws t
   surveyed (part p column c rest) j done all ss st xs i r t e =
       let l = looked p column c done (sample-of p ∷ pivots rest) ss st xs (subst (λ z. Fits dist z column (sample-of p ∷ members c)) (sym i) (r .0)) t e in
       surveyed rest (suc j) (done ++ (sample-of p ∷ [])) all (ss ++ (look dist q w p column ss st .0 ∷ [])) (look dist q w p column ss st .1) (if-standing p ++ xs)
-        (append-assoc done (sample-of p ∷ []) (pivots rest) ∙ i) (r .2)
-        (tell-push top dist laws q (Settled (if-standing p ++ xs)) done ss (sample-of p) (look dist q w p column ss st .0) (sighted-all done ss (if-standing p) xs t) (l .1)) (l .0)
+      (append-assoc done (sample-of p ∷ []) (pivots rest) ∙ i) (r .2)
+      (tell-push top dist laws q (Settled (if-standing p ++ xs)) done ss (sample-of p) (look dist q w p column ss st .0) (sighted-all done ss (if-standing p) xs t) (l .1)) (l .0)
 
   mutual
     pub search-counts : (t : Tree E) (st : State) (xs : List (Sample E)) → Ranged dist t → Counts xs st → Counts (standing t ++ xs) (searched dist q w t st)
@@ -144,9 +144,9 @@ module _ {E : Type 0} (top : ℕ) (dist : E → E → ℕ) (laws : Metric-laws t
         let after = searched-open dist q w rest ss st in
         let ih = open-counts rest (suc j) all ss st xs (r .2) t e in
         cond-both (struck ss column) after (searched dist q w c after) (Counts (standing c ++ before))
-          (λ h. ih ∙ sym (count-beyond (standing c) before (all-standing (Beyond top dist laws q (Settled before)) c
-            (struck-beyond top dist laws q (Settled before) all [] ss column (sample-of p ∷ members c) (sighted-children all ss rest xs t) (subst (λ z. Fits dist z column (sample-of p ∷ members c)) (sym (append-nil all)) (r .0)) h .1))))
-          (λ h. search-counts c after before (r .1) ih)
+        (λ h. ih ∙ sym (count-beyond (standing c) before (all-standing (Beyond top dist laws q (Settled before)) c
+        (struck-beyond top dist laws q (Settled before) all [] ss column (sample-of p ∷ members c) (sighted-children all ss rest xs t) (subst (λ z. Fits dist z column (sample-of p ∷ members c)) (sym (append-nil all)) (r .0)) h .1))))
+        (λ h. search-counts c after before (r .1) ih)
 
   -- from the start
   pub search-keeps : (t : Tree E) → Ranged dist t → searched dist q w t start .kept ≡ result (hits dist q (standing t))

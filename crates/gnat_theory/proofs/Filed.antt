@@ -27,8 +27,8 @@ least-place-below : (n j d i : ℕ) (xs : List ℕ) → j < n → i + length xs 
 least-place-below n j d i [] l m = l
 least-place-below n j d i (x ∷ xs) l m =
     cond-both (ltb x d) (least-place i x (suc i) xs) (least-place j d (suc i) xs) (λ z. z < n)
-      (λ e. least-place-below n i x (suc i) xs (omega arith) (omega arith))
-      (λ e. least-place-below n j d (suc i) xs l (omega arith))
+    (λ e. least-place-below n i x (suc i) xs (omega arith) (omega arith))
+    (λ e. least-place-below n j d (suc i) xs l (omega arith))
 
 nearest-below : (ds : List ℕ) → 0 < length ds → nearest ds < length ds
 nearest-below [] l = absurd (omega arith)
@@ -72,11 +72,11 @@ module _ {E : Type 0} (dist : E → E → ℕ) where
   fits-alone (p ∷ ps) s = (((omega arith, omega arith), tt), fits-alone ps s)
 
   pub fit-carries : Carries (Ranges-fit dist)
-  fit-carries = record
-    { reordered = λ all j rs p xs ys s f. fits-shuffle all rs (p ∷ xs) (p ∷ ys) (after p xs ys s) f
-    ; one-more = λ all j rs p s xs e f. fits-shuffle all (widened rs (distances dist all s)) (s ∷ (p ∷ xs)) (p ∷ (s ∷ xs)) (swapped s p xs) (fits-widened all rs s (p ∷ xs) f)
-    ; alone = λ all j p. fits-alone all p
-    }
+  fit-carries = record {
+    reordered = λ all j rs p xs ys s f. fits-shuffle all rs (p ∷ xs) (p ∷ ys) (after p xs ys s) f;
+    one-more = λ all j rs p s xs e f. fits-shuffle all (widened rs (distances dist all s)) (s ∷ (p ∷ xs)) (p ∷ (s ∷ xs)) (swapped s p xs) (fits-widened all rs s (p ∷ xs) f);
+    alone = λ all j p. fits-alone all p;
+  }
 
   attained-shuffle : (p : Sample E) (d : ℕ) (xs ys : List (Sample E)) → Shuffle (Sample E) xs ys → Attained dist p d xs → Attained dist p d ys
   attained-shuffle p d xs ys s a = (a .0, among-shuffle (a .0) xs ys s (a .1), a .2)
@@ -104,11 +104,12 @@ module _ {E : Type 0} (dist : E → E → ℕ) where
   tight-widened (p ∷ ps) [] s xs f = f
   tight-widened (p ∷ ps) (r ∷ rs) s xs f =
       let d = dist (p .element) (s .element) in
-      let here = attained-here p s xs in
-      ( ( attained-either p (r .low) d (min (r .low) d) (s ∷ xs) (min-either (r .low) d) (attained-more p s (r .low) xs (f .0 .0)) here
-        , attained-either p (r .high) d (max (r .high) d) (s ∷ xs) (max-either (r .high) d) (attained-more p s (r .high) xs (f .0 .1)) here
-        )
-      , tight-widened ps rs s xs (f .1)
+      let here = attained-here p s xs in (
+        (
+          attained-either p (r .low) d (min (r .low) d) (s ∷ xs) (min-either (r .low) d) (attained-more p s (r .low) xs (f .0 .0)) here,
+          attained-either p (r .high) d (max (r .high) d) (s ∷ xs) (max-either (r .high) d) (attained-more p s (r .high) xs (f .0 .1)) here,
+        ),
+        tight-widened ps rs s xs (f .1),
       )
 
   tight-alone : (ps : List (Sample E)) (s : Sample E) → Tight dist ps (points dist ps s) (s ∷ [])
@@ -116,18 +117,18 @@ module _ {E : Type 0} (dist : E → E → ℕ) where
   tight-alone (p ∷ ps) s = (((s, inl refl, refl), (s, inl refl, refl)), tight-alone ps s)
 
   pub tight-carries : Carries (Ranges-tight dist)
-  tight-carries = record
-    { reordered = λ all j rs p xs ys s f. tight-shuffle all rs (p ∷ xs) (p ∷ ys) (after p xs ys s) f
-    ; one-more = λ all j rs p s xs e f. tight-shuffle all (widened rs (distances dist all s)) (s ∷ (p ∷ xs)) (p ∷ (s ∷ xs)) (swapped s p xs) (tight-widened all rs s (p ∷ xs) f)
-    ; alone = λ all j p. tight-alone all p
-    }
+  tight-carries = record {
+    reordered = λ all j rs p xs ys s f. tight-shuffle all rs (p ∷ xs) (p ∷ ys) (after p xs ys s) f;
+    one-more = λ all j rs p s xs e f. tight-shuffle all (widened rs (distances dist all s)) (s ∷ (p ∷ xs)) (p ∷ (s ∷ xs)) (swapped s p xs) (tight-widened all rs s (p ∷ xs) f);
+    alone = λ all j p. tight-alone all p;
+  }
 
   pub nearest-carries : Carries (Own-nearest dist)
-  nearest-carries = record
-    { reordered = λ all j rs p xs ys s f. all-shuffle (λ x. nearest (distances dist all x) ≡ j) xs ys s f
-    ; one-more = λ all j rs p s xs e f. (e, f)
-    ; alone = λ all j p. tt
-    }
+  nearest-carries = record {
+    reordered = λ all j rs p xs ys s f. all-shuffle (λ x. nearest (distances dist all x) ≡ j) xs ys s f;
+    one-more = λ all j rs p s xs e f. (e, f);
+    alone = λ all j p. tt;
+  }
 
   module _ (grown : List (Sample E) → Tree E) where
     pub filed-pivots : (s : Sample E) (ds : List ℕ) (n : ℕ) (ps : Parts E) → pivots (filed-under dist grown s ds n ps) ≡ pivots ps
@@ -155,7 +156,7 @@ module _ {E : Type 0} (dist : E → E → ℕ) where
         pub filed-gathered : (s : Sample E) (t : Tree E) → Branching degree t → Shuffle (Sample E) (gathered of-pivot (filed dist grown s t)) (s ∷ gathered of-pivot t)
         filed-gathered s (leaf xs) b =
             in-turn (gathered of-pivot (grown (xs ++ (s ∷ [])))) (xs ++ (s ∷ [])) (s ∷ xs) (same (xs ++ (s ∷ [])))
-              (subst (λ z. Shuffle (Sample E) (xs ++ (s ∷ [])) (s ∷ z)) (append-nil xs) (shuffle-front xs s []))
+            (subst (λ z. Shuffle (Sample E) (xs ++ (s ∷ [])) (s ∷ z)) (append-nil xs) (shuffle-front xs s []))
         filed-gathered s (branch ps) b =
             let ds = distances dist (pivots ps) s in
             let l : length ds ≡ length (pivots ps) = length-distances (pivots ps) s in
@@ -169,16 +170,16 @@ module _ {E : Type 0} (dist : E → E → ℕ) where
             let y = gathered of-pivot (filed dist grown s t) in
             let g = gathered-parts of-pivot rest in
             in-turn (o ++ (y ++ g)) (o ++ (s ∷ (x ++ g))) (s ∷ (o ++ (x ++ g)))
-              (shuffle-behind o (y ++ g) (s ∷ (x ++ g)) (shuffle-before g y (s ∷ x) (filed-gathered s t (b .0)))) (shuffle-front o s (x ++ g))
+            (shuffle-behind o (y ++ g) (s ∷ (x ++ g)) (shuffle-before g y (s ∷ x) (filed-gathered s t (b .0)))) (shuffle-front o s (x ++ g))
         filed-under-gathered s ds (suc n) (part p column t rest) l b =
             let o = of-pivot p in
             let x = gathered of-pivot t in
             let g = gathered-parts of-pivot rest in
             let h = gathered-parts of-pivot (filed-under dist grown s ds n rest) in
             in-turn (o ++ (x ++ h)) (o ++ (s ∷ (x ++ g))) (s ∷ (o ++ (x ++ g)))
-              (shuffle-behind o (x ++ h) (s ∷ (x ++ g))
-                (in-turn (x ++ h) (x ++ (s ∷ g)) (s ∷ (x ++ g)) (shuffle-behind x h (s ∷ g) (filed-under-gathered s ds n rest (omega arith) (b .1))) (shuffle-front x s g)))
-              (shuffle-front o s (x ++ g))
+            (shuffle-behind o (x ++ h) (s ∷ (x ++ g))
+            (in-turn (x ++ h) (x ++ (s ∷ g)) (s ∷ (x ++ g)) (shuffle-behind x h (s ∷ g) (filed-under-gathered s ds n rest (omega arith) (b .1))) (shuffle-front x s g)))
+            (shuffle-front o s (x ++ g))
 
     -- what filing carries on holds throughout
     module _ (F : Child-fact E) (carries : Carries F) (same : (xs : List (Sample E)) → Shuffle (Sample E) (members (grown xs)) xs) (throughout : (xs : List (Sample E)) → Throughout F (grown xs)) (degree : ℕ) (some : 1 ≤ degree) where
@@ -193,11 +194,11 @@ module _ {E : Type 0} (dist : E → E → ℕ) where
         filed-under-throughout s all j n none e b r = tt
         filed-under-throughout s all j zero (part p column t rest) e b r =
             let x = members t in
-            let y = members (filed dist grown s t) in
-            ( carries .reordered all j (widened column (distances dist all s)) (sample-of p) (s ∷ x) y (shuffle-back y (s ∷ x) (filed-gathered always same degree some s t (b .0)))
-                (carries .one-more all j column (sample-of p) s x (omega arith) (r .0))
-            , filed-throughout s t (b .0) (r .1)
-            , r .2
+            let y = members (filed dist grown s t) in (
+              carries .reordered all j (widened column (distances dist all s)) (sample-of p) (s ∷ x) y (shuffle-back y (s ∷ x) (filed-gathered always same degree some s t (b .0)))
+                  (carries .one-more all j column (sample-of p) s x (omega arith) (r .0)),
+              filed-throughout s t (b .0) (r .1),
+              r .2,
             )
         filed-under-throughout s all j (suc n) (part p column t rest) e b r = (r .0, r .1, filed-under-throughout s all (suc j) n rest (omega arith) (b .1) (r .2))
 
@@ -237,7 +238,7 @@ module _ {E : Type 0} (dist : E → E → ℕ) (grown : List (Sample E) → Tree
         let y = gathered of-pivot (filed dist grown s t) in
         let z = gathered of-pivot (filed-all dist grown (s ∷ xs) t) in
         in-turn z (xs ++ y) (s ∷ (xs ++ x)) (filed-all-gathered xs (filed dist grown s t) (filed-branching dist grown degree branching s t b))
-          (in-turn (xs ++ y) (xs ++ (s ∷ x)) (s ∷ (xs ++ x)) (shuffle-behind xs y (s ∷ x) (filed-gathered dist grown of-pivot same degree some s t b)) (shuffle-front xs s x))
+        (in-turn (xs ++ y) (xs ++ (s ∷ x)) (s ∷ (xs ++ x)) (shuffle-behind xs y (s ∷ x) (filed-gathered dist grown of-pivot same degree some s t b)) (shuffle-front xs s x))
 
   module _ (some : 1 ≤ degree) (F : Child-fact E) (carries : Carries dist F) (same : (xs : List (Sample E)) → Shuffle (Sample E) (members (grown xs)) xs) (throughout : (xs : List (Sample E)) → Throughout F (grown xs)) where
     pub filed-all-throughout : (xs : List (Sample E)) (t : Tree E) → Branching degree t → Throughout F t → Throughout F (filed-all dist grown xs t)

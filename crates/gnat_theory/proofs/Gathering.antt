@@ -36,6 +36,6 @@ module _ {E : Type 0} (P : Sample E → Type 0) where
     all-standing-parts none a = tt
     all-standing-parts (part p column t rest) a =
         all-append P (if-standing p) (standing t ++ gathered-parts if-standing rest) (all-if-standing p (a .0))
-          (all-append P (standing t) (gathered-parts if-standing rest)
-            (all-standing t (all-left P (members t) (gathered-parts always rest) (a .1)))
-            (all-standing-parts rest (all-right P (members t) (gathered-parts always rest) (a .1))))
+        (all-append P (standing t) (gathered-parts if-standing rest)
+        (all-standing t (all-left P (members t) (gathered-parts always rest) (a .1)))
+        (all-standing-parts rest (all-right P (members t) (gathered-parts always rest) (a .1))))

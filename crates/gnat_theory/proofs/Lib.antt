@@ -4,8 +4,6 @@ pub mod Wanting
 pub mod Striking
 pub mod Gathering
 pub mod Exactness
-
-
 pub mod Working
 pub mod Turns
 pub mod Filed

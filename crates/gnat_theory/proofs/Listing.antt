@@ -42,10 +42,10 @@ module _ {E : Type 0} (dist : E → E → ℕ) where
 
   lists-filed : (all : List (Sample E)) (j n : ℕ) (ps : Parts E) (xs : List (Sample E)) (s : Sample E) → nearest (distances dist all s) ≡ j + n → Lists dist all j ps xs → Lists dist all j (filed-under dist leaf s (distances dist all s) n ps) (xs ++ (s ∷ []))
   lists-filed all j n none xs s e h = tt
-  lists-filed all j zero (part p column t rest) xs s e h =
-      ( ap (filed dist leaf s) (h .0) ∙ ap leaf (sym (nearest-here all j xs s (omega arith)))
-      , lists-behind all (suc j) rest xs s (omega arith) (h .1)
-      )
+  lists-filed all j zero (part p column t rest) xs s e h = (
+    ap (filed dist leaf s) (h .0) ∙ ap leaf (sym (nearest-here all j xs s (omega arith))),
+    lists-behind all (suc j) rest xs s (omega arith) (h .1),
+  )
   lists-filed all j (suc n) (part p column t rest) xs s e h =
       (h .0 ∙ ap leaf (sym (nearest-elsewhere all j xs s (λ i. omega arith))), lists-filed all (suc j) n rest xs s (omega arith) (h .1))
 
@@ -61,21 +61,21 @@ module _ {E : Type 0} (dist : E → E → ℕ) where
       let next = filed-under dist leaf s ds (nearest ds) ps in
       let same : filed-under dist leaf s (distances dist all s) (nearest (distances dist all s)) ps ≡ next = ap (λ z. filed-under dist leaf s (distances dist z s) (nearest (distances dist z s)) ps) (sym e) in
       let ih = lists-all next all xs (ys ++ (s ∷ [])) (filed-pivots dist leaf s ds (nearest ds) ps ∙ e)
-                (subst (λ z. Lists dist all 0 z (ys ++ (s ∷ []))) same (lists-filed all 0 (nearest (distances dist all s)) ps ys s (omega arith) h)) in
+      (subst (λ z. Lists dist all 0 z (ys ++ (s ∷ []))) same (lists-filed all 0 (nearest (distances dist all s)) ps ys s (omega arith) h)) in
       (ih .0, ih .1, ih .2, subst (Lists dist all 0 (ih .0)) (append-assoc ys (s ∷ []) xs) (ih .3))
 
   pub split-by-rule : (degree : ℕ) (xs : List (Sample E)) → 1 ≤ degree → degree ≤ length xs → Split-by-rule dist degree xs (split dist degree xs)
   split-by-rule degree xs some enough =
       let c = chosen dist degree [] xs in
       let h = lists-all (bare dist (c .0) (c .0)) (c .0) (c .1) [] (bare-pivots dist (c .0) (c .0)) (lists-bare (c .0) 0 (c .0) (c .0)) in
-      record
-        { parts = h .0
-        ; others = c .1
-        ; is = h .1
-        ; count = ap length (h .2) ∙ pivot-number dist degree xs enough
-        ; chosen = subst (λ z. Chooses dist [] z xs (c .1)) (sym (h .2)) (chooses dist degree xs)
-        ; lists = subst (λ z. Lists dist z 0 (h .0) (c .1)) (sym (h .2)) (h .3)
-        ; ranged = subst (Throughout (Ranges-fit dist)) (h .1) (split-throughout dist degree some xs enough (Ranges-fit dist) (fit-carries dist))
-        ; narrow = subst (Throughout (Ranges-tight dist)) (h .1) (split-throughout dist degree some xs enough (Ranges-tight dist) (tight-carries dist))
-        ; left = others-number dist degree xs enough
-        }
+      record {
+        parts = h .0;
+        others = c .1;
+        is = h .1;
+        count = ap length (h .2) ∙ pivot-number dist degree xs enough;
+        chosen = subst (λ z. Chooses dist [] z xs (c .1)) (sym (h .2)) (chooses dist degree xs);
+        lists = subst (λ z. Lists dist z 0 (h .0) (c .1)) (sym (h .2)) (h .3);
+        ranged = subst (Throughout (Ranges-fit dist)) (h .1) (split-throughout dist degree some xs enough (Ranges-fit dist) (fit-carries dist));
+        narrow = subst (Throughout (Ranges-tight dist)) (h .1) (split-throughout dist degree some xs enough (Ranges-tight dist) (tight-carries dist));
+        left = others-number dist degree xs enough;
+      }

@@ -55,7 +55,7 @@ module _ {X : Type 0} where
   pub shuffle-middle : (xs ys zs : List X) → Shuffle X (xs ++ (ys ++ zs)) (ys ++ (xs ++ zs))
   shuffle-middle xs ys zs =
       subst (λ u. Shuffle X u (ys ++ (xs ++ zs))) (append-assoc xs ys zs)
-        (subst (Shuffle X ((xs ++ ys) ++ zs)) (append-assoc ys xs zs) (shuffle-before zs (xs ++ ys) (ys ++ xs) (shuffle-parts xs ys)))
+      (subst (Shuffle X ((xs ++ ys) ++ zs)) (append-assoc ys xs zs) (shuffle-before zs (xs ++ ys) (ys ++ xs) (shuffle-parts xs ys)))
 
   pub all-shuffle : (P : X → Type 0) (xs ys : List X) → Shuffle X xs ys → All P xs → All P ys
   all-shuffle P _ _ nothing a = a

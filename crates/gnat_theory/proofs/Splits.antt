@@ -29,8 +29,8 @@ best-shuffle {X} before x (y ∷ ys) =
     let rest = best before y ys .1 in
     let ih = best-shuffle before y ys in
     cond-both {A = X × List X} (before b x) (b, x ∷ rest) (x, y ∷ ys) (λ r. Shuffle X (r .0 ∷ r .1) (x ∷ (y ∷ ys)))
-      (λ e. in-turn (b ∷ (x ∷ rest)) (x ∷ (b ∷ rest)) (x ∷ (y ∷ ys)) (swapped b x rest) (after x (b ∷ rest) (y ∷ ys) ih))
-      (λ e. same-order (x ∷ (y ∷ ys)))
+    (λ e. in-turn (b ∷ (x ∷ rest)) (x ∷ (b ∷ rest)) (x ∷ (y ∷ ys)) (swapped b x rest) (after x (b ∷ rest) (y ∷ ys) ih))
+    (λ e. same-order (x ∷ (y ∷ ys)))
 
 module _ {E : Type 0} (dist : E → E → ℕ) where
   -- the pivots and the samples left are all
@@ -42,7 +42,7 @@ module _ {E : Type 0} (dist : E → E → ℕ) where
       let rest = best (farther dist ps) x xs .1 in
       let c = chosen dist n (ps ++ (b ∷ [])) rest in
       in-turn (c .0 ++ c .1) ((ps ++ (b ∷ [])) ++ rest) (ps ++ (x ∷ xs)) (chosen-shuffle n (ps ++ (b ∷ [])) rest)
-        (subst (λ z. Shuffle (Sample E) z (ps ++ (x ∷ xs))) (sym (append-assoc ps (b ∷ []) rest)) (shuffle-behind ps (b ∷ rest) (x ∷ xs) (best-shuffle (farther dist ps) x xs)))
+      (subst (λ z. Shuffle (Sample E) z (ps ++ (x ∷ xs))) (sym (append-assoc ps (b ∷ []) rest)) (shuffle-behind ps (b ∷ rest) (x ∷ xs) (best-shuffle (farther dist ps) x xs)))
 
   chosen-count : (n : ℕ) (ps xs : List (Sample E)) → n ≤ length xs → length (chosen dist n ps xs .0) ≡ n + length ps
   chosen-count zero ps xs l = omega arith
@@ -82,7 +82,7 @@ module _ {E : Type 0} (dist : E → E → ℕ) where
   leaf-filed-leaves most [] t l = subst (λ z. Leaves z t) (omega arith) l
   leaf-filed-leaves most (s ∷ xs) t l =
       subst (λ z. Leaves z (filed-all dist leaf xs (filed dist leaf s t))) (omega arith)
-        (leaf-filed-leaves (suc most) xs (filed dist leaf s t) (filed-leaves most (suc most) (omega arith) dist leaf (λ ys m. m) s t l))
+      (leaf-filed-leaves (suc most) xs (filed dist leaf s t) (filed-leaves most (suc most) (omega arith) dist leaf (λ ys m. m) s t l))
 
   -- a leaf with samples enough is split
   module _ (degree : ℕ) (some : 1 ≤ degree) (xs : List (Sample E)) (enough : degree ≤ length xs) where
@@ -118,7 +118,7 @@ module _ {E : Type 0} (dist : E → E → ℕ) where
           let c = chosen dist degree [] xs in
           let g = gathered of-pivot (split dist degree xs) in
           in-turn g (c .1 ++ c .0) xs (subst (λ z. Shuffle (Sample E) g (c .1 ++ z)) (bare-gathered (c .0) (c .0)) (split-gathers of-pivot))
-            (in-turn (c .1 ++ c .0) (c .0 ++ c .1) xs (shuffle-parts (c .1) (c .0)) (chosen-shuffle degree [] xs))
+          (in-turn (c .1 ++ c .0) (c .0 ++ c .1) xs (shuffle-parts (c .1) (c .0)) (chosen-shuffle degree [] xs))
 
     bare-none : (ps qs : List (Sample E)) → gathered-parts (λ p. []) (bare dist ps qs) ≡ []
     bare-none ps [] = refl
@@ -136,7 +136,7 @@ module _ {E : Type 0} (dist : E → E → ℕ) where
     split-throughout F carries =
         let c = chosen dist degree [] xs in
         filed-all-throughout dist leaf degree (λ ys. tt) some F carries (λ ys. same-order ys) (λ ys. tt) (c .1) (branch (bare dist (c .0) (c .0))) start-branching
-          (subst (λ z. Throughout-parts F z 0 (bare dist (c .0) (c .0))) (sym (bare-pivots (c .0) (c .0))) (bare-throughout F carries 0 (c .0) (c .0)))
+        (subst (λ z. Throughout-parts F z 0 (bare dist (c .0) (c .0))) (sym (bare-pivots (c .0) (c .0))) (bare-throughout F carries 0 (c .0) (c .0)))
 
 -- a leaf with one more sample, split if it is too large
 module _ {E : Type 0} (dist : E → E → ℕ) (degree bucket : ℕ) (some : 1 ≤ degree) (room : degree ≤ bucket) where

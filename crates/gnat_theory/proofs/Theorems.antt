@@ -4,7 +4,7 @@ use mathlib.Core.Path.{_≡_, refl, sym, ap, subst, _∙_}
 use Prim.Native.Nat.{ℕ, suc, _+_, _≤_}
 use native.Mathlib.Omega.{arith}
 use lib.ListN.{length, take, length-append}
-use Rattle.std.proofs.shelf.Lists.{append-nil}
+use Rattle.std.proofs.shelf.Lists.{append-assoc, append-nil}
 use Rattle.metric.specs.Laws.{Metric-laws}
 use Rattle.hits.specs.Order.{inside}
 use Rattle.hits.specs.Samples.{Sample, hits}
@@ -12,6 +12,8 @@ use Rattle.index.specs.Meaning.{without}
 use Rattle.gnat_theory.specs.Tree.{Tree, Parts, Pivot, fresh-pivot, gathered, gathered-parts, if-standing, always, standing, members}
 use Rattle.gnat_theory.specs.Tree.Tree.{leaf, branch}
 use Rattle.gnat_theory.specs.Tree.Parts.{none, part}
+use Rattle.gnat_theory.specs.Filing.{filed-all}
+use Rattle.gnat_theory.specs.Searching.{start}
 use Rattle.gnat_theory.specs.Splitting.{kept-or-split, grown, rebuilt}
 use Rattle.gnat_theory.specs.Dropping.{shrunk}
 use Rattle.gnat_theory.specs.Ranges.{Ranges-fit, Ranges-tight, Own-nearest}
@@ -32,35 +34,93 @@ module _ {E : Type 0} (dist : E → E → ℕ) (degree bucket : ℕ) (some : 1 �
   branchings : (xs : List (Sample E)) → Branching degree (kept-or-split dist degree bucket xs)
   branchings = grown-branching dist degree bucket some room
 
+  every-row : (ys : List (Sample E)) → Shuffle (Sample E) (members (kept-or-split dist degree bucket ys)) ys
+  every-row = grown-gathered dist degree bucket some room always (λ x. refl)
+
   starts : Starts dist degree bucket
   starts = record { stands = nothing; branching = tt; leaves = omega arith; ranged = tt; placed = tt }
 
   grows : Grows dist degree bucket
   grows xs t s f = (
-      record
-        { stands =
-            in-turn (standing (grown dist degree bucket s t)) (s ∷ standing t) (xs ++ (s ∷ []))
-              (filed-gathered dist (kept-or-split dist degree bucket) if-standing (grown-gathered dist degree bucket some room if-standing (λ x. refl)) degree some s t (f .branching))
-              (in-turn (s ∷ standing t) (s ∷ xs) (xs ++ (s ∷ [])) (after s (standing t) xs (f .stands))
-                (shuffle-back (xs ++ (s ∷ [])) (s ∷ xs) (subst (λ z. Shuffle (Sample E) (xs ++ (s ∷ [])) (s ∷ z)) (append-nil xs) (shuffle-front xs s []))))
-        ; branching = filed-branching dist (kept-or-split dist degree bucket) degree branchings s t (f .branching)
-        ; leaves = filed-leaves bucket bucket (omega arith) dist (kept-or-split dist degree bucket) (grown-leaves dist degree bucket some room) s t (f .leaves)
-        ; ranged = filed-throughout dist (kept-or-split dist degree bucket) (Ranges-fit dist) (fit-carries dist) every-row (grown-throughout dist degree bucket some room (Ranges-fit dist) (fit-carries dist)) degree some s t (f .branching) (f .ranged)
-        ; placed = filed-throughout dist (kept-or-split dist degree bucket) (Own-nearest dist) (nearest-carries dist) every-row (grown-throughout dist degree bucket some room (Own-nearest dist) (nearest-carries dist)) degree some s t (f .branching) (f .placed)
-        }, filed-gathered dist (kept-or-split dist degree bucket) always every-row degree some s t (f .branching))
-    where
-      every-row : (ys : List (Sample E)) → Shuffle (Sample E) (members (kept-or-split dist degree bucket ys)) ys
-      every-row = grown-gathered dist degree bucket some room always (λ x. refl)
+    record {
+      stands =
+          in-turn (standing (grown dist degree bucket s t)) (s ∷ standing t) (xs ++ (s ∷ []))
+          (filed-gathered dist (kept-or-split dist degree bucket) if-standing (grown-gathered dist degree bucket some room if-standing (λ x. refl)) degree some s t (f .branching))
+          (in-turn (s ∷ standing t) (s ∷ xs) (xs ++ (s ∷ [])) (after s (standing t) xs (f .stands))
+          (shuffle-back (xs ++ (s ∷ [])) (s ∷ xs) (subst (λ z. Shuffle (Sample E) (xs ++ (s ∷ [])) (s ∷ z)) (append-nil xs) (shuffle-front xs s []))));
+      branching = filed-branching dist (kept-or-split dist degree bucket) degree branchings s t (f .branching);
+      leaves = filed-leaves bucket bucket (omega arith) dist (kept-or-split dist degree bucket) (grown-leaves dist degree bucket some room) s t (f .leaves);
+      ranged = filed-throughout dist (kept-or-split dist degree bucket) (Ranges-fit dist) (fit-carries dist) every-row (grown-throughout dist degree bucket some room (Ranges-fit dist) (fit-carries dist)) degree some s t (f .branching) (f .ranged);
+      placed = filed-throughout dist (kept-or-split dist degree bucket) (Own-nearest dist) (nearest-carries dist) every-row (grown-throughout dist degree bucket some room (Own-nearest dist) (nearest-carries dist)) degree some s t (f .branching) (f .placed);
+    },
+    filed-gathered dist (kept-or-split dist degree bucket) always every-row degree some s t (f .branching),
+  )
 
   shrinks : Shrinks dist degree bucket
-  shrinks xs t n f =
-      ( record
-          { stands = in-turn (standing (shrunk n t)) (without n (standing t)) (without n xs) (shuffle-equal (standing (shrunk n t)) (without n (standing t)) (shrunk-standing n t)) (without-shuffle n (standing t) xs (f .stands))
-          ; branching = shrunk-branching n degree t (f .branching)
-          ; leaves = shrunk-leaves n bucket t (f .leaves)
-          ; ranged = shrunk-throughout n (Ranges-fit dist) (fit-fewer dist) t (f .ranged)
-          ; placed = shrunk-throughout n (Own-nearest dist) (nearest-fewer dist) t (f .placed)
-          }
-      , shrunk-count n t
-      , shrunk-in-leaves n t
-      )
+  shrinks xs t n f = (
+    record {
+      stands = in-turn (standing (shrunk n t)) (without n (standing t)) (without n xs) (shuffle-equal (standing (shrunk n t)) (without n (standing t)) (shrunk-standing n t)) (without-shuffle n (standing t) xs (f .stands));
+      branching = shrunk-branching n degree t (f .branching);
+      leaves = shrunk-leaves n bucket t (f .leaves);
+      ranged = shrunk-throughout n (Ranges-fit dist) (fit-fewer dist) t (f .ranged);
+      placed = shrunk-throughout n (Own-nearest dist) (nearest-fewer dist) t (f .placed);
+    },
+    shrunk-count n t,
+    shrunk-in-leaves n t,
+  )
+
+  -- one after the other
+  files-all : (xs ys : List (Sample E)) (t : Tree E) → Files dist degree bucket ys t → Files dist degree bucket (ys ++ xs) (filed-all dist (kept-or-split dist degree bucket) xs t)
+  files-all [] ys t f = subst (λ z. Files dist degree bucket z t) (sym (append-nil ys)) f
+  files-all (s ∷ xs) ys t f =
+      subst (λ z. Files dist degree bucket z (filed-all dist (kept-or-split dist degree bucket) (s ∷ xs) t)) (append-assoc ys (s ∷ []) xs)
+      (files-all xs (ys ++ (s ∷ [])) (grown dist degree bucket s t) (grows ys t s f .0))
+
+  rebuilds : Rebuilds dist degree bucket
+  rebuilds xs = (
+    files-all xs [] (leaf []) starts,
+    subst (Shuffle (Sample E) (members (rebuilt dist degree bucket xs))) (append-nil xs) (filed-all-gathered dist (kept-or-split dist degree bucket) degree branchings some always every-row xs (leaf []) tt),
+    filed-all-throughout dist (kept-or-split dist degree bucket) degree branchings some (Ranges-tight dist) (tight-carries dist) every-row (grown-throughout dist degree bucket some room (Ranges-tight dist) (tight-carries dist)) xs (leaf []) tt tt,
+  )
+
+module _ {E : Type 0} (dist : E → E → ℕ) where
+  pub keeps-its-tree : Keeps-its-tree dist
+  keeps-its-tree degree bucket some room = (starts dist degree bucket some room, grows dist degree bucket some room, shrinks dist degree bucket some room, rebuilds dist degree bucket some room)
+
+  pub splits-roomily : Splits-roomily dist
+  splits-roomily degree bucket xs some twice long =
+      let enough : degree ≤ length xs = omega arith in
+      omega (arith, split-in-leaves dist degree some xs enough)
+
+  mutual
+    pub rows-counted : Rows-counted dist
+    rows-counted (leaf xs) = omega arith
+    rows-counted (branch ps) = parts-counted ps
+
+    parts-counted : (ps : Parts E) → length (gathered-parts always ps) ≡ part-count ps + length (gathered-parts (λ p. []) ps)
+    parts-counted none = omega arith
+    parts-counted (part p column t rest) =
+        omega (arith, rows-counted t, parts-counted rest, length-append (members t) (gathered-parts always rest), length-append (in-leaves t) (gathered-parts (λ p. []) rest))
+
+  pub always-bounded : Always-bounded dist
+  always-bounded q w = record {
+    first = λ t st. refl;
+    last = λ st. refl;
+    next = turn-step dist q w;
+    falls = turn-falls dist q w;
+    room = length-weight;
+    whole = λ t. omega arith;
+  }
+
+module _ {E : Type 0} (top : ℕ) (dist : E → E → ℕ) (laws : Metric-laws top dist) where
+  pub struck-is-beyond : Struck-is-beyond dist
+  struck-is-beyond q p s r R h e = beyond-reach top dist laws q p s r R h e
+
+  pub search-exact : Search-exact dist
+  search-exact degree bucket xs t f q =
+      let same = hits-shuffle dist q (standing t) xs (f .stands) in
+      record {
+        near = λ k. nearest-exact top dist laws q t (f .ranged) k ∙ ap (take k) same;
+        within = λ r. within-exact top dist laws q t (f .ranged) r ∙ ap (inside r) same;
+        work = λ w. omega (arith, search-work dist q w t start);
+      }

@@ -48,10 +48,10 @@ nearest-keeps zero = record { none = refl; one-more = λ h hs o. refl; beyond = 
 nearest-keeps (suc k) = record { none = refl; one-more = λ h hs o. take-put (suc k) h hs; beyond = λ hs R o e h l. take-beyond (suc k) R h hs o e l }
 
 pub within-keeps : (r : ℕ) → Keeps (hits-within r) (inside r)
-within-keeps r = record
-  { none = refl
-  ; one-more = λ h hs o. cond-both (leb (h .distance) r) (put h (inside r hs)) (inside r hs) (λ z. z ≡ inside r (put h hs))
+within-keeps r = record {
+  none = refl;
+  one-more = λ h hs o. cond-both (leb (h .distance) r) (put h (inside r hs)) (inside r hs) (λ z. z ≡ inside r (put h hs))
       (λ e. sym (inside-put-sorted r h hs o (leb-true (h .distance) r e)))
-      (λ e. sym (inside-put-far r h hs (leb-false (h .distance) r e)))
-  ; beyond = λ hs R o e h l. let z : r ≡ R = cc in inside-put-far r h hs (omega arith)
-  }
+      (λ e. sym (inside-put-far r h hs (leb-false (h .distance) r e)));
+  beyond = λ hs R o e h l. let z : r ≡ R = cc in inside-put-far r h hs (omega arith);
+}

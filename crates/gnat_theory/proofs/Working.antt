@@ -28,7 +28,7 @@ module _ {E : Type 0} (dist : E → E → ℕ) (q : E) (w : Want) where
   look-work : (p : Pivot E) (column : List Range) (ss : List Sight) (st : State) → look dist q w p column ss st .1 .measured ≤ suc (st .measured)
   look-work p column ss st =
       cond-both {A = Sight × State} (struck ss column) (passed, st) (sight-of dist q w p (measure-pivot dist q w p st), measure-pivot dist q w p st) (λ r. r .1 .measured ≤ suc (st .measured))
-        (λ e. omega arith) (λ e. omega (arith, pivot-work p st))
+      (λ e. omega arith) (λ e. omega (arith, pivot-work p st))
 
   survey-work : (ps : Parts E) (ss : List Sight) (st : State) → survey dist q w ps ss st .1 .measured ≤ length (pivots ps) + st .measured
   survey-work none ss st = omega arith
@@ -57,4 +57,4 @@ module _ {E : Type 0} (dist : E → E → ℕ) (q : E) (w : Want) where
         let ih : after .measured ≤ below rest + st .measured = open-work rest ss st in
         let here : searched dist q w t after .measured ≤ length (members t) + after .measured = search-work t after in
         cond-both (struck ss column) after (searched dist q w t after) (λ z. z .measured ≤ below (part p column t rest) + st .measured)
-          (λ e. omega arith) (λ e. omega arith)
+        (λ e. omega arith) (λ e. omega arith)

@@ -1,3 +1,63 @@
-// The tree of an index: theorems on filing, dropping and searching.
+// The tree of an index: what filing, splitting, dropping, rebuilding and searching do, and the
+// theorems about them. Each function stands for the theorem in its contract, and answers 0.
 ghost use mathlib.Core.Path.{_≡_};
-pub fn nothing_yet() -> u8 ensures { λ r. ⌜ r ≡ 0 ⌝ } { 0 }
+ghost use Rattle.gnat_theory.specs.Claims.{Nearest-first, Splits, Splits-roomily, Keeps-its-tree, Rows-counted, Struck-is-beyond, Search-exact, Always-bounded};
+use metric::Metric;
+
+// Of equal distances the first counts as the nearest.
+pub fn nearest_is_first() -> u8
+    ensures { λ _. ⌜ Nearest-first ⌝ }
+{
+    0
+}
+
+// A split chooses its pivots, fills its leaves and sets its ranges by the rule.
+pub fn splits_by_the_rule<M: Metric>() -> u8
+    ensures { λ _. ⌜ Splits dist ⌝ }
+{
+    0
+}
+
+// With a bucket of twice the degree, a split leaves more samples in leaves than it takes as pivots.
+pub fn splits_roomily<M: Metric>() -> u8
+    ensures { λ _. ⌜ Splits-roomily dist ⌝ }
+{
+    0
+}
+
+// The empty leaf, filing, dropping and rebuilding each leave a tree of just the samples that
+// stand, with all ranges right and no leaf too large.
+pub fn keeps_its_tree<M: Metric>() -> u8
+    ensures { λ _. ⌜ Keeps-its-tree dist ⌝ }
+{
+    0
+}
+
+// The rows of a tree are its pivots and the samples in its leaves.
+pub fn rows_are_counted<M: Metric>() -> u8
+    ensures { λ _. ⌜ Rows-counted dist ⌝ }
+{
+    0
+}
+
+// A struck child holds no sample within reach.
+pub fn struck_is_beyond<M: Metric>() -> u8
+    ensures { λ _. ⌜ Struck-is-beyond dist ⌝ }
+{
+    0
+}
+
+// The search finds exactly the hits that are wanted, and measures no row twice.
+pub fn search_is_exact<M: Metric>() -> u8
+    ensures { λ _. ⌜ Search-exact dist ⌝ }
+{
+    0
+}
+
+// The list of pending trees never has more than one place more than the tree has pivots, and the
+// search by it ends.
+pub fn pending_is_bounded<M: Metric>() -> u8
+    ensures { λ _. ⌜ Always-bounded dist ⌝ }
+{
+    0
+}

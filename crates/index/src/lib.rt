@@ -1,3 +1,3 @@
 // What every index of samples means and owes, and what its calls refuse.
-pub mod refusal;
 pub mod index;
+pub mod refusal;

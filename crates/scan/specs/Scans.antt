@@ -28,4 +28,5 @@ module _ {E : Type 0} where
     capacity-bound = omega arith;
     last-bound = o .last-bound;
     rising = o .rising;
-    room = simp (length-map, length-take) (omega arith) }
+    room = simp (length-map, length-take) (omega arith);
+  }

@@ -58,7 +58,14 @@ pub(crate) fn gather<E: Metric>(rows: &[Row<E>], q: &E, radius: u32, list: &mut 
         let distance = q.distance(&row.element);
         if distance <= radius {
             found += 1;
-            kept = place(list, kept, Hit { number: row.number, distance });
+            kept = place(
+                list,
+                kept,
+                Hit {
+                    number: row.number,
+                    distance,
+                },
+            );
         }
     }
     found

@@ -4,7 +4,10 @@ ghost use Prim.Native.Nat.{ℕ, min};
 ghost use lib.ListN.{length};
 ghost use Rattle.index.specs.Meaning.{fresh};
 ghost use Rattle.scan.specs.Scans.{scan-meaning, Scan-sound, scan-lawful, Holds-at};
-use crate::rows::{Row, close_up, find, gather};
+use crate::rows::Row;
+use crate::rows::close_up;
+use crate::rows::find;
+use crate::rows::gather;
 use hits::Hit;
 use index::index::Index;
 use index::refusal::Refusal;
@@ -24,7 +27,11 @@ impl<'a, E: Metric> Scan<'a, E> {
         ensures sound { λ r. ⌜ Scan-sound r ⌝ }
         ensures fresh { λ r. ⌜ scan-meaning r ≡ fresh (min (length (now (rows .entry))) 1024) ⌝ }
     {
-        Scan { rows, used: 0, last: 0 }
+        Scan {
+            rows,
+            used: 0,
+            last: 0,
+        }
     }
 
     fn capacity(&self) -> usize
