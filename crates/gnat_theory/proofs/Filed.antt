@@ -8,31 +8,24 @@ use native.Mathlib.Omega.{arith}
 use lib.Dec.{ltb}
 use lib.ListN.{length, length-append}
 use Rattle.std.specs.shelf.Lists.{All}
-use Rattle.std.proofs.shelf.Tests.{cond-both, cases-lt}
+use Rattle.std.proofs.shelf.Tests.{cases-lt}
 use Rattle.std.proofs.shelf.Lists.{append-nil}
 use Rattle.std.proofs.shelf.Elements.{all-weaker}
 use Rattle.hits.specs.Samples.{Sample}
 use Rattle.gnat_theory.specs.Tree.{Tree, Parts, Pivot, Range, sample-of, pivots, gathered, gathered-parts, always, members}
 use Rattle.gnat_theory.specs.Tree.Tree.{leaf, branch}
 use Rattle.gnat_theory.specs.Tree.Parts.{none, part}
-use Rattle.gnat_theory.specs.Filing.{least-place, nearest, widened, distances, filed, filed-under, filed-all}
+use Rattle.gnat_theory.specs.Filing.{nearest, widened, distances, filed, filed-under, filed-all}
 use Rattle.gnat_theory.specs.Splitting.{points}
 use Rattle.gnat_theory.specs.Ranges.{Child-fact, Throughout, Throughout-parts, Holds, Fits, Attained, Tight, Ranges-fit, Ranges-tight, Own-nearest}
 use Rattle.gnat_theory.specs.Shapes.{Branching, Branching-parts, Leaves, Leaves-parts}
 use Rattle.gnat_theory.specs.Shuffles.{Shuffle}
 use Rattle.gnat_theory.specs.Shuffles.Shuffle.{after, swapped, in-turn}
+use Rattle.gnat_theory.proofs.Firsts.{first-below}
 use Rattle.gnat_theory.proofs.Shuffling.{same-order, shuffle-back, shuffle-behind, shuffle-before, shuffle-front, all-shuffle, among-shuffle}
 
-least-place-below : (n j d i : ℕ) (xs : List ℕ) → j < n → i + length xs ≤ n → least-place j d i xs < n
-least-place-below n j d i [] l m = l
-least-place-below n j d i (x ∷ xs) l m =
-    cond-both (ltb x d) (least-place i x (suc i) xs) (least-place j d (suc i) xs) (λ z. z < n)
-    (λ e. least-place-below n i x (suc i) xs (omega arith) (omega arith))
-    (λ e. least-place-below n j d (suc i) xs l (omega arith))
-
 nearest-below : (ds : List ℕ) → 0 < length ds → nearest ds < length ds
-nearest-below [] l = absurd (omega arith)
-nearest-below (d ∷ ds) l = least-place-below (length (d ∷ ds)) 0 d 1 ds l (omega arith)
+nearest-below ds l = first-below ltb ds l
 
 min-either : (a b : ℕ) → (min a b ≡ a) ⊎ (min a b ≡ b)
 min-either a b = ⊎-elim (λ l. inl (omega arith)) (λ l. inr (omega arith)) (cases-lt a b)

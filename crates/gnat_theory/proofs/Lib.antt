@@ -6,6 +6,7 @@ pub mod Gathering
 pub mod Exactness
 pub mod Working
 pub mod Turns
+pub mod Firsts
 pub mod Filed
 pub mod Splits
 pub mod Drops

@@ -5,32 +5,23 @@ use mathlib.Core.Path.{_≡_, refl, sym, ap, subst, _∙_}
 use Prim.Native.Nat.{ℕ, zero, suc, _+_, _≤_, _<_}
 use native.Mathlib.Omega.{arith}
 use lib.Dec.{leb}
-use lib.ListN.{length, length-append}
+use lib.ListN.{length, getD, length-append}
 use Rattle.std.proofs.shelf.Tests.{cond-both, leb-true, leb-false}
 use Rattle.std.proofs.shelf.Lists.{append-assoc, append-nil}
 use Rattle.hits.specs.Samples.{Sample}
 use Rattle.gnat_theory.specs.Tree.{Tree, Parts, Pivot, Range, fresh-pivot, pivots, gathered, gathered-parts, always, members}
 use Rattle.gnat_theory.specs.Tree.Tree.{leaf, branch}
 use Rattle.gnat_theory.specs.Tree.Parts.{none, part}
+use Rattle.gnat_theory.specs.Choice.{first-place, removed}
 use Rattle.gnat_theory.specs.Filing.{filed, filed-all}
-use Rattle.gnat_theory.specs.Splitting.{best, farther, chosen, bare, split, kept-or-split}
+use Rattle.gnat_theory.specs.Splitting.{farther, chosen, bare, split, kept-or-split}
 use Rattle.gnat_theory.specs.Ranges.{Child-fact, Throughout, Throughout-parts}
 use Rattle.gnat_theory.specs.Shapes.{Branching, Branching-parts, Leaves, Leaves-parts}
 use Rattle.gnat_theory.specs.Shuffles.{Shuffle}
 use Rattle.gnat_theory.specs.Shuffles.Shuffle.{after, swapped, in-turn}
+use Rattle.gnat_theory.proofs.Firsts.{first-shuffle}
 use Rattle.gnat_theory.proofs.Shuffling.{same-order, shuffle-equal, shuffle-behind, shuffle-parts, length-shuffle}
 use Rattle.gnat_theory.proofs.Filed.{Carries, leaves-more, filed-leaves, filed-all-branching, filed-all-gathered, filed-all-throughout}
-
--- the best and the others are all
-pub best-shuffle : {X : Type 0} (before : X → X → Bool) (x : X) (xs : List X) → Shuffle X (best before x xs .0 ∷ best before x xs .1) (x ∷ xs)
-best-shuffle before x [] = same-order (x ∷ [])
-best-shuffle {X} before x (y ∷ ys) =
-    let b = best before y ys .0 in
-    let rest = best before y ys .1 in
-    let ih = best-shuffle before y ys in
-    cond-both {A = X × List X} (before b x) (b, x ∷ rest) (x, y ∷ ys) (λ r. Shuffle X (r .0 ∷ r .1) (x ∷ (y ∷ ys)))
-    (λ e. in-turn (b ∷ (x ∷ rest)) (x ∷ (b ∷ rest)) (x ∷ (y ∷ ys)) (swapped b x rest) (after x (b ∷ rest) (y ∷ ys) ih))
-    (λ e. same-order (x ∷ (y ∷ ys)))
 
 module _ {E : Type 0} (dist : E → E → ℕ) where
   -- the pivots and the samples left are all
@@ -38,19 +29,21 @@ module _ {E : Type 0} (dist : E → E → ℕ) where
   chosen-shuffle zero ps xs = same-order (ps ++ xs)
   chosen-shuffle (suc n) ps [] = same-order (ps ++ [])
   chosen-shuffle (suc n) ps (x ∷ xs) =
-      let b = best (farther dist ps) x xs .0 in
-      let rest = best (farther dist ps) x xs .1 in
+      let j = first-place (farther dist ps) (x ∷ xs) in
+      let b = getD (x ∷ xs) j x in
+      let rest = removed j (x ∷ xs) in
       let c = chosen dist n (ps ++ (b ∷ [])) rest in
       in-turn (c .0 ++ c .1) ((ps ++ (b ∷ [])) ++ rest) (ps ++ (x ∷ xs)) (chosen-shuffle n (ps ++ (b ∷ [])) rest)
-      (subst (λ z. Shuffle (Sample E) z (ps ++ (x ∷ xs))) (sym (append-assoc ps (b ∷ []) rest)) (shuffle-behind ps (b ∷ rest) (x ∷ xs) (best-shuffle (farther dist ps) x xs)))
+      (subst (λ z. Shuffle (Sample E) z (ps ++ (x ∷ xs))) (sym (append-assoc ps (b ∷ []) rest)) (shuffle-behind ps (b ∷ rest) (x ∷ xs) (first-shuffle (farther dist ps) x xs)))
 
   chosen-count : (n : ℕ) (ps xs : List (Sample E)) → n ≤ length xs → length (chosen dist n ps xs .0) ≡ n + length ps
   chosen-count zero ps xs l = omega arith
   chosen-count (suc n) ps [] l = absurd (omega arith)
   chosen-count (suc n) ps (x ∷ xs) l =
-      let b = best (farther dist ps) x xs .0 in
-      let rest = best (farther dist ps) x xs .1 in
-      let k : length (b ∷ rest) ≡ length (x ∷ xs) = length-shuffle (b ∷ rest) (x ∷ xs) (best-shuffle (farther dist ps) x xs) in
+      let j = first-place (farther dist ps) (x ∷ xs) in
+      let b = getD (x ∷ xs) j x in
+      let rest = removed j (x ∷ xs) in
+      let k : length (b ∷ rest) ≡ length (x ∷ xs) = length-shuffle (b ∷ rest) (x ∷ xs) (first-shuffle (farther dist ps) x xs) in
       chosen-count n (ps ++ (b ∷ [])) rest (omega arith) ∙ omega (arith, length-append ps (b ∷ []))
 
   -- as many pivots as asked for

@@ -1,5 +1,4 @@
 -- Filing a sample: down to the nearest pivot at each branch, and into a leaf.
-use mathlib.Core.Bool.{cond}
 use mathlib.Core.List.{List, [], _∷_, _++_}
 use Prim.Native.Nat.{ℕ, zero, suc, min, max}
 use lib.Dec.{ltb}
@@ -7,15 +6,11 @@ use Rattle.hits.specs.Samples.{Sample}
 use Rattle.gnat_theory.specs.Tree.{Tree, Parts, Range, pivots}
 use Rattle.gnat_theory.specs.Tree.Tree.{leaf, branch}
 use Rattle.gnat_theory.specs.Tree.Parts.{none, part}
+use Rattle.gnat_theory.specs.Choice.{first-place}
 
--- the place of the least number, the earlier one if equal: place j has the least so far, d, and place i comes next
-abbrev pub least-place : ℕ → ℕ → ℕ → List ℕ → ℕ
-least-place j d i [] = j
-least-place j d i (x ∷ xs) = cond (ltb x d) (least-place i x (suc i) xs) (least-place j d (suc i) xs)
-
+-- the place of the least distance, the earlier one if equal
 abbrev pub nearest : List ℕ → ℕ
-nearest [] = 0
-nearest (d ∷ ds) = least-place 0 d 1 ds
+nearest ds = first-place ltb ds
 
 -- each range widened to hold its pivot's distance
 abbrev pub widened : List Range → List ℕ → List Range

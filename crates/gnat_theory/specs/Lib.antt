@@ -1,4 +1,5 @@
 pub mod Tree
+pub mod Choice
 pub mod Filing
 pub mod Splitting
 pub mod Dropping

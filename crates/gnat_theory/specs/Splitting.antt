@@ -3,17 +3,13 @@ use mathlib.Core.Bool.{Bool, cond, _&&_, _||_}
 use mathlib.Core.List.{List, [], _∷_, _++_}
 use Prim.Native.Nat.{ℕ, zero, suc, min}
 use lib.Dec.{eqb, ltb, leb}
-use lib.ListN.{length}
+use lib.ListN.{length, getD}
 use Rattle.hits.specs.Samples.{Sample}
 use Rattle.gnat_theory.specs.Tree.{Tree, Parts, Range, fresh-pivot}
 use Rattle.gnat_theory.specs.Tree.Tree.{leaf, branch}
 use Rattle.gnat_theory.specs.Tree.Parts.{none, part}
+use Rattle.gnat_theory.specs.Choice.{first-place, removed}
 use Rattle.gnat_theory.specs.Filing.{distances, filed, filed-all}
-
--- the first of x and xs that no other comes before, and the others in their order
-abbrev pub best : {X : Type 0} → (X → X → Bool) → X → List X → X × List X
-best before x [] = (x, [])
-best {X} before x (y ∷ ys) = let r : X × List X = best before y ys in cond (before (r .0) x) (r .0, x ∷ r .1) (x, y ∷ ys)
 
 abbrev pub least : ℕ → List ℕ → ℕ
 least d [] = d
@@ -42,7 +38,8 @@ module _ {E : Type 0} (dist : E → E → ℕ) where
   abbrev pub chosen : ℕ → List (Sample E) → List (Sample E) → List (Sample E) × List (Sample E)
   chosen zero ps xs = (ps, xs)
   chosen (suc n) ps [] = (ps, [])
-  chosen (suc n) ps (x ∷ xs) = let r : Sample E × List (Sample E) = best (farther ps) x xs in chosen n (ps ++ (r .0 ∷ [])) (r .1)
+  chosen (suc n) ps (x ∷ xs) =
+      let j : ℕ = first-place (farther ps) (x ∷ xs) in chosen n (ps ++ (getD (x ∷ xs) j x ∷ [])) (removed j (x ∷ xs))
 
   -- the ranges of pivots to a child that has its own pivot alone
   abbrev pub points : List (Sample E) → Sample E → List Range
