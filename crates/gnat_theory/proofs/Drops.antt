@@ -11,7 +11,7 @@ use Rattle.std.proofs.shelf.Tests.{cond-both, cond-true, cond-false}
 use Rattle.std.proofs.shelf.Elements.{all-append}
 use Rattle.hits.specs.Samples.{Sample}
 use Rattle.index.specs.Meaning.{without}
-use Rattle.gnat_theory.specs.Tree.{Tree, Parts, Pivot, Range, sample-of, pivots, gathered, gathered-parts, if-standing, always, standing, members}
+use Rattle.gnat_theory.specs.Tree.{Tree, Parts, Pivot, Range, sample-of, pivots, gathered, gathered-parts, if-standing, always, standing, members, in-leaves}
 use Rattle.gnat_theory.specs.Tree.Tree.{leaf, branch}
 use Rattle.gnat_theory.specs.Tree.Parts.{none, part}
 use Rattle.gnat_theory.specs.Dropping.{marked-at, shrunk, shrunk-parts}
@@ -20,7 +20,6 @@ use Rattle.gnat_theory.specs.Ranges.{Child-fact, Throughout, Throughout-parts,
 use Rattle.gnat_theory.specs.Shapes.{Branching, Branching-parts, Leaves, Leaves-parts, pivot-count, part-count}
 use Rattle.gnat_theory.specs.Shuffles.{Shuffle}
 use Rattle.gnat_theory.specs.Shuffles.Shuffle.{nothing, after, swapped, in-turn}
-use Rattle.gnat_theory.specs.Claims.{in-leaves}
 use Rattle.gnat_theory.proofs.Shuffling.{same-order}
 use Rattle.gnat_theory.proofs.Gathering.{all-left, all-right}
 

@@ -2,6 +2,7 @@ pub mod Tree
 pub mod Choice
 pub mod Filing
 pub mod Splitting
+pub mod Rebuilding
 pub mod Dropping
 pub mod Searching
 pub mod Pending
@@ -9,4 +10,5 @@ pub mod Ranges
 pub mod Shapes
 pub mod Shuffles
 pub mod Rules
-pub mod Claims
+pub mod Keeping
+pub mod Finding

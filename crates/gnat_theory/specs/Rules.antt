@@ -2,16 +2,16 @@
 use mathlib.Core.List.{List, [], _∷_, _++_}
 use mathlib.Core.Logic.{_⊎_}
 use mathlib.Core.Path.{_≡_}
-use Prim.Native.Nat.{ℕ, suc, _+_, _≤_, _<_}
+use Prim.Native.Nat.{ℕ, suc, _+_, _*_, _≤_, _<_}
 use lib.Dec.{eqb}
 use lib.ListN.{length, getD}
 use Rattle.std.specs.shelf.Lists.{All, kept-by}
 use Rattle.hits.specs.Samples.{Sample}
-use Rattle.gnat_theory.specs.Tree.{Tree, Parts, pivots}
+use Rattle.gnat_theory.specs.Tree.{Tree, Parts, pivots, in-leaves}
 use Rattle.gnat_theory.specs.Tree.Tree.{leaf, branch}
 use Rattle.gnat_theory.specs.Tree.Parts.{none, part}
 use Rattle.gnat_theory.specs.Filing.{nearest, distances}
-use Rattle.gnat_theory.specs.Splitting.{gap}
+use Rattle.gnat_theory.specs.Splitting.{gap, split}
 use Rattle.gnat_theory.specs.Ranges.{Ranged, Narrow}
 
 -- n is the place of the least of these, the first where several are equal
@@ -56,3 +56,15 @@ module _ {E : Type 0} (dist : E → E → ℕ) where
     pub narrow : Narrow dist (branch parts)
     -- so many are left for the leaves
     pub left : degree + length others ≡ length xs
+
+  -- a leaf with samples enough splits by the rule
+  abbrev pub Splits : Type 0
+  Splits = (degree : ℕ) (xs : List (Sample E)) → 1 ≤ degree → degree ≤ length xs → Split-by-rule degree xs (split dist degree xs)
+
+  -- where the bucket is at least twice the degree, a split leaves more samples in leaves than it takes as pivots
+  abbrev pub Splits-roomily : Type 0
+  Splits-roomily = (degree bucket : ℕ) (xs : List (Sample E)) → 1 ≤ degree → 2 * degree ≤ bucket → length xs ≡ suc bucket → degree < length (in-leaves (split dist degree xs))
+
+-- of some distances the nearest is the first of the least
+abbrev pub Nearest-first : Type 0
+Nearest-first = (ds : List ℕ) → 0 < length ds → First-least ds (nearest ds)

@@ -63,7 +63,3 @@ module _ {E : Type 0} (dist : E → E → ℕ) where
     -- the tree with one more sample
     abbrev pub grown : Sample E → Tree E → Tree E
     grown s t = filed dist kept-or-split s t
-
-    -- these samples filed anew, one by one
-    abbrev pub rebuilt : List (Sample E) → Tree E
-    rebuilt xs = filed-all dist kept-or-split xs (leaf [])

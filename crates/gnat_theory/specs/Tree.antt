@@ -63,3 +63,7 @@ module _ {E : Type 0} where
   -- the samples that stand and the marked pivots: each has its row
   abbrev pub members : Tree E → List (Sample E)
   members t = gathered always t
+
+  -- the samples in leaves
+  abbrev pub in-leaves : Tree E → List (Sample E)
+  in-leaves t = gathered (λ p. []) t

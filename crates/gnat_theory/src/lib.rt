@@ -1,7 +1,8 @@
 // The tree of an index: what filing, splitting, dropping, rebuilding and searching do, and the
 // theorems about them. Each function stands for the theorem in its contract, and answers 0.
-ghost use mathlib.Core.Path.{_≡_};
-ghost use Rattle.gnat_theory.specs.Claims.{Nearest-first, Splits, Splits-roomily, Keeps-its-tree, Rows-counted, Struck-is-beyond, Search-exact, Always-bounded};
+ghost use Rattle.gnat_theory.specs.Rules.{Nearest-first, Splits, Splits-roomily};
+ghost use Rattle.gnat_theory.specs.Keeping.{Always-keeps-tree, Rows-counted};
+ghost use Rattle.gnat_theory.specs.Finding.{Outside-is-beyond, Search-exact, Always-bounded};
 use metric::Metric;
 
 // Of equal distances the first counts as the nearest.
@@ -25,10 +26,10 @@ pub fn splits_roomily<M: Metric>() -> u8
     0
 }
 
-// The empty leaf, filing, dropping and rebuilding each leave a tree of just the samples that
-// stand, with all ranges right and no leaf too large.
+// The empty leaf, filing, dropping, rebuilding and adding each leave a tree of just the samples
+// that stand, with all ranges right and no leaf too large.
 pub fn keeps_its_tree<M: Metric>() -> u8
-    ensures { λ _. ⌜ Keeps-its-tree dist ⌝ }
+    ensures { λ _. ⌜ Always-keeps-tree dist ⌝ }
 {
     0
 }
@@ -40,14 +41,14 @@ pub fn rows_are_counted<M: Metric>() -> u8
     0
 }
 
-// A struck child holds no sample within reach.
-pub fn struck_is_beyond<M: Metric>() -> u8
-    ensures { λ _. ⌜ Struck-is-beyond dist ⌝ }
+// What a range shows to be out of reach is out of reach.
+pub fn outside_is_beyond<M: Metric>() -> u8
+    ensures { λ _. ⌜ Outside-is-beyond dist ⌝ }
 {
     0
 }
 
-// The search finds exactly the hits that are wanted, and measures no row twice.
+// The search finds exactly the hits that are wanted, and measures no more than there are rows.
 pub fn search_is_exact<M: Metric>() -> u8
     ensures { λ _. ⌜ Search-exact dist ⌝ }
 {
