@@ -1,0 +1,14 @@
+pub mod Tree
+pub mod Choice
+pub mod Filing
+pub mod Splitting
+pub mod Rebuilding
+pub mod Dropping
+pub mod Searching
+pub mod Pending
+pub mod Ranges
+pub mod Shapes
+pub mod Shuffles
+pub mod Rules
+pub mod Keeping
+pub mod Finding
