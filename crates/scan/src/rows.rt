@@ -75,15 +75,9 @@ pub(crate) fn gather<E: Metric>(rows: &[Row<E>], q: &E, radius: u32, list: &mut 
         let distance = q.distance(&row.element);
         if distance <= radius {
             found += 1;
-<<<<<<< HEAD
             held = place(
                 list,
                 held,
-=======
-            kept = place(
-                list,
-                kept,
->>>>>>> b58a1eeb07b2d6eea91f99482657781131cb34af
                 Hit {
                     number: row.number,
                     distance,

@@ -6,15 +6,10 @@ ghost use Rattle.index.specs.Meaning.{fresh};
 ghost use Rattle.scan.specs.Scans.{scan-meaning, Scan-sound, scan-lawful, Holds-at};
 use crate::rows::Row;
 use crate::rows::close_up;
-<<<<<<< HEAD
 use crate::rows::element_in;
 use crate::rows::find;
 use crate::rows::gather;
 use crate::rows::write;
-=======
-use crate::rows::find;
-use crate::rows::gather;
->>>>>>> b58a1eeb07b2d6eea91f99482657781131cb34af
 use hits::Hit;
 use index::index::Index;
 use index::refusal::Refusal;
