@@ -3,10 +3,19 @@ use mathlib.Core.Bool.{Bool, false}
 use mathlib.Core.List.{List, [], _∷_}
 use mathlib.Core.Path.{_≡_}
 use Prim.Native.Nat.{ℕ, zero, suc}
+use lib.ListN.{replicate}
 use Rattle.std.specs.Finite.{nth}
 use Rattle.std.specs.declared.option.Option.the-variants.{Some}
 use Rattle.gnat_rows.specs.declared.Node.{Node}
+use Rattle.gnat_rows.specs.declared.Node.the-variants as node
 use Rattle.gnat_rows.specs.declared.Row.{Row}
+
+-- a leaf with no sample
+abbrev pub empty : Node
+empty = node.Leaf (record { count = 0; rows = replicate 32 0 })
+
+abbrev pub vacant-row : {E : Type 0} → E → Row E
+vacant-row e = record { element = e; number = 0; marked = false; place = 0; node = empty }
 
 -- there is such a row, and this holds of it
 abbrev pub Has-row : {E : Type 0} → List (Row E) → ℕ → (Row E → Type 0) → Type 0

@@ -37,7 +37,7 @@ abbrev pub column : Branch-record → ℕ → List Range
 column b j = ranges (b .count) (getD (b .low) j []) (getD (b .high) j [])
 
 module _ {E : Type 0} (rows : List (Row E)) where
-  -- these rows hold these samples, unmarked, in order
+  -- these rows hold these samples, in order
   abbrev pub Holds-samples : List ℕ → List (Sample E) → Type 0
   Holds-samples [] [] = Unit {0}
   Holds-samples [] (x ∷ xs) = ⊥

@@ -3,11 +3,11 @@
 ghost use mathlib.Core.Path.{_≡_};
 ghost use Prim.Native.Nat.{_<_};
 ghost use lib.ListN.{length};
-ghost use Rattle.gnat_rows.specs.Rows.{Has-row, with-sample, with-marked, with-place, with-node};
+ghost use Rattle.gnat_rows.specs.Rows.{vacant-row, Has-row, with-sample, with-marked, with-place, with-node};
 use metric::Metric;
 
 // A leaf: the rows of its samples, in the order filed.
-#[derive(Clone, Copy, Debug, PartialEq)]
+#[derive(Clone, Copy)]
 pub struct Leaf {
     pub count: u8,
     pub rows: [u16; 32],
@@ -15,7 +15,7 @@ pub struct Leaf {
 
 // A branch: the rows of its pivots, and the ranges of every pivot to every child; low[j][i] and
 // high[j][i] are those of pivot i to child j. The child of a pivot is the node in the pivot's row.
-#[derive(Clone, Copy, Debug, PartialEq)]
+#[derive(Clone, Copy)]
 pub struct Branch {
     pub count: u8,
     pub pivots: [u16; 8],
@@ -23,7 +23,7 @@ pub struct Branch {
     pub high: [[u32; 8]; 8],
 }
 
-#[derive(Clone, Copy, Debug, PartialEq)]
+#[derive(Clone, Copy)]
 pub enum Node {
     Leaf(Leaf),
     Branch(Branch),
@@ -31,7 +31,7 @@ pub enum Node {
 
 // A row. `place` is no part of the sample: the places of all rows, read in order, list the rows that
 // stand by rising number, then those that are marked, then those that are free.
-#[derive(Clone, Copy, Debug, PartialEq)]
+#[derive(Clone, Copy)]
 pub struct Row<E> {
     pub element: E,
     pub number: u16,
@@ -40,12 +40,23 @@ pub struct Row<E> {
     pub node: Node,
 }
 
-pub const EMPTY: Node = Node::Leaf(Leaf { count: 0, rows: [0; 32] });
+pub const EMPTY: Node = Node::Leaf(Leaf {
+    count: 0,
+    rows: [0; 32],
+});
 
 impl<E: Metric> Row<E> {
     // A row to lend: what it holds does not matter until a sample is filed in it.
-    pub fn vacant(element: E) -> Row<E> {
-        Row { element, number: 0, marked: false, place: 0, node: EMPTY }
+    pub fn vacant(element: E) -> Row<E>
+        ensures { λ r. ⌜ r ≡ vacant-row element ⌝ }
+    {
+        Row {
+            element,
+            number: 0,
+            marked: false,
+            place: 0,
+            node: EMPTY,
+        }
     }
 }
 
@@ -89,9 +100,14 @@ pub fn put_sample<E: Metric>(rows: &mut [Row<E>], at: usize, number: u16, elemen
     requires { ⌜ at < length (now rows) ⌝ }
     ensures { λ _. ⌜ now (rows .exit) ≡ with-sample at number element (now (rows .entry)) ⌝ }
 {
-    rows[at].number = number;
-    rows[at].element = element;
-    rows[at].marked = false;
+    let old = rows[at];
+    rows[at] = Row {
+        element,
+        number,
+        marked: false,
+        place: old.place,
+        node: old.node,
+    };
 }
 
 pub fn put_marked<E: Metric>(rows: &mut [Row<E>], at: usize, marked: bool)

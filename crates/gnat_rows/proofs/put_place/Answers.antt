@@ -1,0 +1,5 @@
+use Rattle.gnat_rows.proofs.Changes.{changed-is-set}
+use Rattle.gnat_rows.proofs.put_place.Needs as need
+
+pub returns : need.returns
+returns g c = changed-is-set (c .args .rows .now) (c .args .at) (c .index-rows-at .result) (λ r. record { element = r .element; number = r .number; marked = r .marked; place = c .args .place; node = r .node }) (c .pre)
