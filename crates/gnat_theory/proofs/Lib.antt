@@ -13,3 +13,6 @@ pub mod Drops
 pub mod Choosing
 pub mod Listing
 pub mod Theorems
+pub mod Reaching
+pub mod Pruning
+pub mod Steps

@@ -17,9 +17,10 @@ use Rattle.gnat_theory.specs.Tree.Parts.{none, part}
 use Rattle.gnat_theory.specs.Filing.{nearest, distances, filed, filed-under, filed-all}
 use Rattle.gnat_theory.specs.Splitting.{chosen, bare, split}
 use Rattle.gnat_theory.specs.Ranges.{Throughout, Ranges-fit, Ranges-tight}
+use Rattle.gnat_theory.specs.Shapes.{Leaves}
 use Rattle.gnat_theory.specs.Rules.{nearest-to, Lists, Chooses, Split-by-rule}
 use Rattle.gnat_theory.proofs.Filed.{filed-pivots, fit-carries, tight-carries}
-use Rattle.gnat_theory.proofs.Splits.{bare-pivots, pivot-number, others-number, split-throughout}
+use Rattle.gnat_theory.proofs.Splits.{bare-pivots, pivot-number, others-number, split-leaves, split-throughout}
 use Rattle.gnat_theory.proofs.Choosing.{chooses}
 
 module _ {E : Type 0} (dist : E → E → ℕ) where
@@ -77,5 +78,6 @@ module _ {E : Type 0} (dist : E → E → ℕ) where
         lists = subst (λ z. Lists dist z 0 (h .0) (c .1)) (sym (h .2)) (h .3);
         ranged = subst (Throughout (Ranges-fit dist)) (h .1) (split-throughout dist degree some xs enough (Ranges-fit dist) (fit-carries dist));
         narrow = subst (Throughout (Ranges-tight dist)) (h .1) (split-throughout dist degree some xs enough (Ranges-tight dist) (tight-carries dist));
+        small = subst (Leaves (length (c .1))) (h .1) (split-leaves dist degree some xs enough);
         left = others-number dist degree xs enough;
       }

@@ -24,11 +24,11 @@ module _ {E : Type 0} (dist : E → E → ℕ) where
   distances [] s = []
   distances (p ∷ ps) s = dist (p .element) (s .element) ∷ distances ps s
 
-  -- what becomes of a leaf with one more sample is given by `grown`
-  module _ (grown : List (Sample E) → Tree E) where
+  -- what a leaf with one more sample becomes is given by `became`
+  module _ (became : List (Sample E) → Tree E) where
     abbrev mutual
       pub filed : Sample E → Tree E → Tree E
-      filed s (leaf xs) = grown (xs ++ (s ∷ []))
+      filed s (leaf xs) = became (xs ++ (s ∷ []))
       filed s (branch ps) = branch (filed-under s (distances (pivots ps) s) (nearest (distances (pivots ps) s)) ps)
 
       -- under the pivot at this place; ds are the distances of the pivots to the sample

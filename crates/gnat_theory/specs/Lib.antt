@@ -12,3 +12,4 @@ pub mod Shuffles
 pub mod Rules
 pub mod Keeping
 pub mod Finding
+pub mod Example

@@ -13,6 +13,7 @@ use Rattle.gnat_theory.specs.Tree.Parts.{none, part}
 use Rattle.gnat_theory.specs.Filing.{nearest, distances}
 use Rattle.gnat_theory.specs.Splitting.{gap, split}
 use Rattle.gnat_theory.specs.Ranges.{Ranged, Narrow}
+use Rattle.gnat_theory.specs.Shapes.{Leaves}
 
 -- n is the place of the least of these, the first where several are equal
 pub record First-least (ds : List ℕ) (n : ℕ) : Type 0 where
@@ -54,7 +55,8 @@ module _ {E : Type 0} (dist : E → E → ℕ) where
     pub lists : Lists (pivots parts) 0 parts others
     pub ranged : Ranged dist (branch parts)
     pub narrow : Narrow dist (branch parts)
-    -- so many are left for the leaves
+    -- so many are left for the leaves, and no leaf has more
+    pub small : Leaves (length others) (branch parts)
     pub left : degree + length others ≡ length xs
 
   -- a leaf with samples enough splits by the rule
