@@ -1,4 +1,4 @@
-// Moves an arm past walls, and two cards past a wall, and prints which pairs pass by which checker.
+// An arm moves past walls, and cards change past a wall: which pairs pass by which checker.
 use arm::Arm;
 use arm_checkers::both;
 use card::Card;
@@ -36,28 +36,28 @@ fn word(passes: bool) -> &'static str {
 }
 
 // The poses of a short motion.
-fn print_motion(rt: LibcRuntime, from: &Arm, to: &Arm) -> io::Result<()> {
+fn print_motion(rt: &LibcRuntime, from: &Arm, to: &Arm) -> io::Result<()> {
     let n = steps(from, to);
     for t in 0..n + 1 {
         let [first, second, ..] = pose(from, to, t, n).angles;
-        println!(rt, "  step {t}: {first} {second}")?;
+        println!(rt, "    step {t}: {first} {second}")?;
     }
     Ok(())
 }
 
-fn print_trip(rt: LibcRuntime, walls: &[Wall], from: &Arm, to: &Arm) -> io::Result<()> {
+fn print_trip(rt: &LibcRuntime, walls: &[Wall], from: &Arm, to: &Arm) -> io::Result<()> {
     let (step, swept) = both(walls, from, to);
     let [a, b, ..] = from.angles;
     let [c, d, ..] = to.angles;
     println!(
         rt,
-        "from {a} {b} to {c} {d}: Step {}, Box {}",
+        "  from {a} {b} to {c} {d}: Step {}, Box {}",
         word(step),
         word(swept)
     )
 }
 
-fn print_arms(rt: LibcRuntime) -> io::Result<()> {
+fn print_arms(rt: &LibcRuntime) -> io::Result<()> {
     let walls = [
         wall_of(arc(8, 4), arc(0, 4095)),
         wall_of(arc(2, 0), arc(4094, 0)),
@@ -74,7 +74,7 @@ fn print_arms(rt: LibcRuntime) -> io::Result<()> {
     print_trip(rt, &walls, &pose_of(2900, 4050), &pose_of(3200, 50))
 }
 
-fn print_cards(rt: LibcRuntime) -> io::Result<()> {
+fn print_cards(rt: &LibcRuntime) -> io::Result<()> {
     let walls = [CardWall {
         slots: [7, 3, 255, 255, 255, 255, 255, 255],
     }];
@@ -88,22 +88,23 @@ fn print_cards(rt: LibcRuntime) -> io::Result<()> {
     };
     println!(
         rt,
-        "empty to seven: Mix {}",
+        "  empty to seven: Mix {}",
         word(mix.check(&empty, &seven))
     )?;
     println!(
         rt,
-        "empty to three: Mix {}",
+        "  empty to three: Mix {}",
         word(mix.check(&empty, &three))
     )?;
     println!(
         rt,
-        "seven to three: Mix {}",
+        "  seven to three: Mix {}",
         word(mix.check(&seven, &three))
     )
 }
 
-fn main(rt: LibcRuntime) -> io::Result<()> {
+pub fn past_walls(rt: &LibcRuntime) -> io::Result<()> {
+    println!(rt, "Past walls")?;
     print_arms(rt)?;
     print_cards(rt)
 }
