@@ -17,7 +17,8 @@ use Rattle.hits.specs.Samples.{Sample, Rising}
 use Rattle.index.specs.Meaning.{element-at}
 use Rattle.gnat_rows.specs.declared.Row.{Row}
 use Rattle.gnat_rows.specs.Rows.{Has-row}
-use Rattle.gnat_order.specs.Order.{Within, places, sample-on, samples-at}
+use Rattle.gnat_order.specs.Order.{Within, places}
+use Rattle.gnat_rows.specs.Trees.{sample-on, samples-at}
 
 module _ {E : Type 0} where
   abbrev pub numbers : List (Sample E) → List ℕ

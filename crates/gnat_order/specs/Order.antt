@@ -3,14 +3,12 @@ use mathlib.Core.List.{List, [], _∷_, _++_, map}
 use mathlib.Core.Path.{_≡_}
 use Prim.Native.Nat.{ℕ, zero, suc, _+_, _-_, _<_}
 use lib.ListN.{length, getD, set, take, drop}
-use Rattle.std.specs.Finite.{nth}
 use Rattle.std.specs.declared.option.Option.{Option}
 use Rattle.std.specs.declared.option.Option.the-variants.{None, Some}
-use Rattle.hits.specs.Samples.{Sample}
 use Rattle.index.specs.Meaning.{element-at}
 use Rattle.gnat_rows.specs.declared.Row.{Row}
 use Rattle.gnat_rows.specs.Rows.{Has-row}
-use Rattle.gnat_rows.specs.Shows.{sample-in}
+use Rattle.gnat_rows.specs.Trees.{samples-at}
 
 -- all are below n
 abbrev pub Within : List ℕ → ℕ → Type 0
@@ -45,15 +43,6 @@ module _ {E : Type 0} where
   placed [] rows = rows
   placed (p ∷ ps) [] = []
   placed (p ∷ ps) (r ∷ rows) = at-place p r ∷ placed ps rows
-
-  abbrev pub sample-on : Option (Row E) → List (Sample E) → List (Sample E)
-  sample-on None xs = xs
-  sample-on (Some r) xs = sample-in r ∷ xs
-
-  -- the samples in the rows that are listed
-  abbrev pub samples-at : List (Row E) → List ℕ → List (Sample E)
-  samples-at rows [] = []
-  samples-at rows (i ∷ is) = sample-on (nth rows i) (samples-at rows is)
 
   -- where a number is listed: nowhere, if no sample stands under it
   abbrev pub Listed : List (Row E) → ℕ → ℕ → Option ℕ → Type 0

@@ -1,6 +1,7 @@
 use Prim.Native.Nat.{ℕ, _-_, _≤_, _<_}
 use lib.ListN.{getD, take}
-use Rattle.gnat_order.specs.Order.{places, samples-at}
+use Rattle.gnat_order.specs.Order.{places}
+use Rattle.gnat_rows.specs.Trees.{samples-at}
 use Rattle.gnat_order.proofs.Numbers.{numbers}
 use Rattle.gnat_order.proofs.find.Given as given
 
