@@ -9,7 +9,7 @@ use Rattle.hits.specs.Samples.{Sample}
 use Rattle.gnat_theory.specs.Tree.{Tree, Parts}
 use Rattle.gnat_theory.specs.Tree.Tree.{leaf, branch}
 use Rattle.gnat_theory.specs.Tree.Parts.{none, part}
-use Rattle.gnat_theory.specs.Splitting.{kept-or-split, grown}
+use Rattle.gnat_theory.specs.Splitting.{grown}
 use Rattle.gnat_theory.specs.Shapes.{Branching, Leaves}
 use Rattle.gnat_theory.specs.Shuffles.{Shuffle}
 use Rattle.gnat_rows.specs.declared.Leaf.{Leaf as Leaf-record}
@@ -55,19 +55,23 @@ module _ {E : Type 0} where
     pub same-rows : Shuffle ℕ lies fs
     pub only : Only-in fs rows rows′
 
+  -- a leaf of at most so many rows and the row `at`, which hold the samples xs
+  pub record Ready-leaf (most : ℕ) (rows : List (Row E)) (l : Leaf-record) (at : ℕ) (xs : List (Sample E)) : Type 0 where
+    pub thirty-two : length (l .rows) ≡ 32
+    pub count : l .count ≤ most
+    pub apart : Distinct (at ∷ held l)
+    pub holds : Holds-samples rows (held l ++ (at ∷ [])) xs
+
+  abbrev pub Leaf-fileable : ℕ → List (Row E) → Leaf-record → ℕ → Type 0
+  Leaf-fileable most rows l at = (xs : List (Sample E)) × Ready-leaf most rows l at xs
+
+  -- whatever samples the leaf and the row `at` held, the rows show what they become
+  abbrev pub Becomes : (List (Sample E) → Tree E) → ℕ → List (Row E) → List (Row E) → Leaf-record → Node → ℕ → Type 0
+  Becomes became most rows rows′ l node′ at = (xs : List (Sample E)) → Ready-leaf most rows l at xs → Leaves-tree rows rows′ node′ (became xs) (at ∷ held l)
+
 module _ {E : Type 0} (dist : E → E → ℕ) (degree bucket : ℕ) where
   -- whatever tree the rows showed, they show it with the sample of the row `at` filed
   abbrev pub Files-in : ℕ → List (Row E) → List (Row E) → Node → Node → ℕ → Type 0
   Files-in left rows rows′ node node′ at =
       (t : Tree E) (fs : List ℕ) (row : Row E) → Ready degree bucket left rows node at t fs → nth rows at ≡ Some row
       → Leaves-tree rows rows′ node′ (grown dist degree bucket (sample-in row) t) (at ∷ fs)
-
-  -- the rows of a leaf and the row `at`, which hold the samples xs
-  pub record Ready-leaf (rows : List (Row E)) (l : Leaf-record) (at : ℕ) (xs : List (Sample E)) : Type 0 where
-    pub thirty-two : length (l .rows) ≡ 32
-    pub most : l .count ≤ bucket
-    pub apart : Distinct (at ∷ held l)
-    pub holds : Holds-samples rows (held l ++ (at ∷ [])) xs
-
-  abbrev pub Files-in-leaf : List (Row E) → List (Row E) → Leaf-record → Node → ℕ → Type 0
-  Files-in-leaf rows rows′ l node′ at = (xs : List (Sample E)) → Ready-leaf rows l at xs → Leaves-tree rows rows′ node′ (kept-or-split dist degree bucket xs) (at ∷ held l)

@@ -1,1 +1,4 @@
 pub mod Changes
+pub mod Apart
+pub mod Showing
+pub mod Only
