@@ -39,3 +39,12 @@ module _ {E : Type 0} where
   nth-within [] i r e = let z : _≡_ {A = ℕ} 0 1 = cc in absurd (omega arith)
   nth-within (x ∷ xs) zero r e = omega arith
   nth-within (x ∷ xs) (suc i) r e = omega (arith, nth-within xs i r e)
+
+  pub nth-there : (rows : List (Row E)) (i : ℕ) → i < length rows → (r : Row E) × (nth rows i ≡ Some r)
+  nth-there [] i l = absurd (omega arith)
+  nth-there (x ∷ xs) zero l = (x, refl)
+  nth-there (x ∷ xs) (suc i) l = nth-there xs i (omega arith)
+
+  -- two readings of one row
+  pub same-row : (rows : List (Row E)) (i : ℕ) (r r′ : Row E) → nth rows i ≡ Some r → nth rows i ≡ Some r′ → r ≡ r′
+  same-row rows i r r′ p q = cc

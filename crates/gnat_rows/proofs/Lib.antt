@@ -1,2 +1,5 @@
 pub mod Changes
+pub mod Trees
+pub mod Apart
 pub mod Showing
+pub mod Only

@@ -1,3 +1,4 @@
 pub mod Rows
 pub mod Shows
 pub mod Trees
+pub mod Lying

@@ -1,0 +1,4 @@
+// Filing, splitting and dropping in a GNAT that lies in lent rows.
+pub mod filing;
+pub mod splitting;
+pub mod widening;
