@@ -1,0 +1,3 @@
+// The GNAT: an index over a tree of samples that lies in lent rows.
+pub mod chosen;
+pub mod settings;

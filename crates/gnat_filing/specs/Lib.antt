@@ -1,3 +1,0 @@
-pub mod Widening
-pub mod Filed
-pub mod Leaf
