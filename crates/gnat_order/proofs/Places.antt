@@ -1,6 +1,6 @@
 -- Writing the places of rows. Assumes nothing.
 use mathlib.Core.List.{List, [], _∷_, _++_, map}
-use mathlib.Core.Path.{_≡_, refl, sym, ap, _∙_}
+use mathlib.Core.Path.{_≡_, refl, sym, ap, subst, _∙_}
 use Prim.Native.Nat.{ℕ, zero, suc, _+_, _-_, _≤_, _<_}
 use native.Mathlib.Omega.{arith}
 use lib.ListN.{length, getD, set, take, drop, length-set, length-take, length-drop, length-append}
@@ -10,7 +10,8 @@ use Rattle.std.specs.declared.option.Option.the-variants.{None, Some}
 use Rattle.std.proofs.shelf.Lists.{length-map, append-assoc, set-at, getD-drop, getD-append-right, take-append-drop}
 use Rattle.gnat_rows.specs.declared.Row.{Row}
 use Rattle.gnat_rows.specs.Rows.{with-place}
-use Rattle.gnat_order.specs.Order.{places, at-place, placed, counted-from, counted, behind}
+use Rattle.gnat_rows.specs.Lying.{Absent, Distinct}
+use Rattle.gnat_order.specs.Order.{Within, places, at-place, placed, counted-from}
 
 module _ {E : Type 0} where
   -- the place that a row has
@@ -111,3 +112,22 @@ slid-none at ps = let z : at - at ≡ 0 = omega arith in ap (λ k. take at ps ++
 
 pub length-slid : (at i : ℕ) (ps : List ℕ) → at ≤ i → i < length ps → length (sliding at i ps) ≡ length ps
 length-slid at i ps a b = simp (length-append, length-take, length-drop) (omega arith)
+
+-- the rows listed by their own numbers are all below their count
+pub counted-within : (a n : ℕ) (ps : List ℕ) → n ≤ length ps → Within (take n (counted-from a n ps)) (a + n)
+counted-within a zero ps l = tt
+counted-within a (suc n) [] l = absurd (omega arith)
+counted-within a (suc n) (p ∷ ps) l =
+    let e : suc a + n ≡ a + suc n = omega arith in
+    (omega arith, subst (Within (take n (counted-from (suc a) n ps))) e (counted-within (suc a) n ps (omega arith)))
+
+counted-above : (a b n : ℕ) (ps : List ℕ) → b < a → Absent b (take n (counted-from a n ps))
+counted-above a b zero ps l = tt
+counted-above a b (suc n) [] l = tt
+counted-above a b (suc n) (p ∷ ps) l = ((λ e. omega arith), counted-above (suc a) b n ps (omega arith))
+
+-- and each is listed once
+pub counted-distinct : (a n : ℕ) (ps : List ℕ) → Distinct (take n (counted-from a n ps))
+counted-distinct a zero ps = tt
+counted-distinct a (suc n) [] = tt
+counted-distinct a (suc n) (p ∷ ps) = (counted-above (suc a) a n ps (omega arith), counted-distinct (suc a) n ps)

@@ -1,0 +1,47 @@
+// The GNAT as an index.
+ghost use mathlib.Core.Path.{_≡_};
+ghost use Prim.Native.Nat.{ℕ, min};
+ghost use lib.ListN.{length};
+ghost use Rattle.index.specs.Meaning.{fresh};
+ghost use Rattle.gnat_theory.specs.Tree.Tree.{leaf};
+ghost use mathlib.Core.List.{[]};
+ghost use Rattle.gnat.specs.Gnats.{gnat-meaning, gnat-tree, Gnat-sound};
+use crate::settings::Settings;
+use gnat_order::list_rows;
+use gnat_rows::{EMPTY, Node, Row};
+use metric::Metric;
+
+// The tree lies in the rows, from the node `root` on. So many samples stand, and so many more are marked.
+#[derive(Drop)]
+pub struct Gnat<'a, E> {
+    rows: &'a mut [Row<E>],
+    root: Node,
+    degree: u8,
+    bucket: u8,
+    standing: usize,
+    marked: usize,
+    last: u16,
+}
+
+impl<'a, E: Metric> Gnat<'a, E> {
+    // An index over the rows that are lent, of which it uses at most 1,024.
+    pub fn new(rows: &'a mut [Row<E>], settings: Settings) -> Gnat<'a, E>
+        ensures sound { λ r. ⌜ Gnat-sound dist r ⌝ }
+        ensures fresh { λ r. ⌜ gnat-meaning r ≡ fresh (min (length (now (rows .entry))) 1024) ⌝ }
+        ensures tree { λ r. ⌜ gnat-tree r ≡ leaf [] ⌝ }
+        ensures degree { λ r. ⌜ r .degree ≡ settings .degree ⌝ }
+        ensures bucket { λ r. ⌜ r .bucket ≡ settings .bucket ⌝ }
+    {
+        let capacity = rows.len().min(1024);
+        list_rows(rows, capacity as u16);
+        Gnat {
+            rows,
+            root: EMPTY,
+            degree: settings.degree,
+            bucket: settings.bucket,
+            standing: 0,
+            marked: 0,
+            last: 0,
+        }
+    }
+}
