@@ -5,9 +5,10 @@ ghost use lib.ListN.{length};
 ghost use Rattle.index.specs.Meaning.{fresh};
 ghost use Rattle.gnat_theory.specs.Tree.Tree.{leaf};
 ghost use mathlib.Core.List.{[]};
-ghost use Rattle.gnat.specs.Gnats.{gnat-meaning, gnat-tree, Gnat-sound};
+ghost use Rattle.gnat_order.specs.Order.{Listed};
+ghost use Rattle.gnat.specs.Gnats.{capacity-of, gnat-meaning, gnat-tree, Gnat-sound};
 use crate::settings::Settings;
-use gnat_order::list_rows;
+use gnat_order::{find, list_rows};
 use gnat_rows::{EMPTY, Node, Row};
 use metric::Metric;
 
@@ -43,5 +44,18 @@ impl<'a, E: Metric> Gnat<'a, E> {
             marked: 0,
             last: 0,
         }
+    }
+    fn capacity(&self) -> usize
+        ensures { λ r. ⌜ r ≡ capacity-of (now (self .entry)) ⌝ }
+    {
+        self.rows.len().min(1024)
+    }
+
+    // Where the sample of this number is listed.
+    fn place_of(&self, number: u16) -> Option<usize>
+        requires { ⌜ Gnat-sound dist (now self) ⌝ }
+        ensures { λ r. ⌜ Listed (now (now (self .entry) .rows)) (now (self .entry) .standing) number r ⌝ }
+    {
+        find(self.rows, self.standing, number)
     }
 }

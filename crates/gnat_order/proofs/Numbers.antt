@@ -116,3 +116,12 @@ module _ {E : Type 0} (rows : List (Row E)) (standing n : ℕ) (fits : standing 
       (λ b. omega (arith, rising-order 0 65535 (samples-at rows (take standing (places rows))) low k rise b (omega (arith, long))))
       (λ b. let same : k ≡ low = omega arith in let more : n < r = omega arith in omega (arith, ap (λ i. getD listed-numbers i 0) same))
       (cases-lt low k)
+
+pub within-take : (k n : ℕ) (is : List ℕ) → Within is n → Within (take k is) n
+within-take zero n is w = tt
+within-take (suc k) n [] w = tt
+within-take (suc k) n (i ∷ is) w = (w .0, within-take k n is (w .1))
+
+pub within-wider : (n m : ℕ) (is : List ℕ) → n ≤ m → Within is n → Within is m
+within-wider n m [] l w = tt
+within-wider n m (i ∷ is) l w = (omega (arith, w .0), within-wider n m is l (w .1))
