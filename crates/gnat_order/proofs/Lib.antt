@@ -1,3 +1,4 @@
 pub mod Places
 pub mod Numbers
 pub mod Moves
+pub mod Framing

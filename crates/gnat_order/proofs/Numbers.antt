@@ -25,7 +25,7 @@ module _ {E : Type 0} where
   numbers xs = map (λ s. s .number) xs
 
   -- a row that is within the list is there
-  there : (rows : List (Row E)) (i : ℕ) → i < length rows → (r : Row E) × (nth rows i ≡ Some r)
+  pub there : (rows : List (Row E)) (i : ℕ) → i < length rows → (r : Row E) × (nth rows i ≡ Some r)
   there [] i l = absurd (omega arith)
   there (r ∷ rs) zero l = (r, refl)
   there (r ∷ rs) (suc i) l = there rs i (omega arith)

@@ -3,6 +3,7 @@ use mathlib.Core.List.{List, [], _∷_, _++_, map}
 use mathlib.Core.Path.{_≡_}
 use Prim.Native.Nat.{ℕ, zero, suc, _+_, _-_, _<_}
 use lib.ListN.{length, getD, set, take, drop}
+use Rattle.std.specs.shelf.Lists.{All}
 use Rattle.std.specs.declared.option.Option.{Option}
 use Rattle.std.specs.declared.option.Option.the-variants.{None, Some}
 use Rattle.index.specs.Meaning.{element-at}
@@ -12,8 +13,7 @@ use Rattle.gnat_rows.specs.Trees.{samples-at}
 
 -- all are below n
 abbrev pub Within : List ℕ → ℕ → Type 0
-Within [] n = Unit {0}
-Within (i ∷ is) n = (i < n) × Within is n
+Within is n = All (λ i. i < n) is
 
 -- 0, 1, 2 and so on, n of them, over what a list held
 abbrev pub counted-from : ℕ → ℕ → List ℕ → List ℕ
