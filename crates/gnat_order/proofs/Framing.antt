@@ -15,7 +15,9 @@ use Rattle.gnat_theory.specs.Tree.Parts.{none, part}
 use Rattle.gnat_rows.specs.declared.Branch.{Branch as Branch-record}
 use Rattle.gnat_rows.specs.declared.Node.{Node}
 use Rattle.gnat_rows.specs.declared.Row.{Row}
-use Rattle.gnat_rows.specs.Lying.{Only-in}
+use Rattle.gnat_rows.specs.Lying.{Absent, Only-in}
+use Rattle.gnat_rows.specs.Rows.{changed}
+use Rattle.gnat_rows.proofs.Changes.{nth-unchanged}
 use Rattle.gnat_rows.specs.Shows.{Holds-samples, Shows, Shows-parts, sample-in}
 use Rattle.gnat_rows.specs.Trees.{sample-on, samples-at}
 use Rattle.gnat_order.specs.Order.{Within, places, at-place, placed}
@@ -69,3 +71,23 @@ module _ {E : Type 0} where
     pub places-only : places new ≡ places rows
     places-only = ext-getD 0 (places new) (places rows) (length-map new _ ∙ (long ∙ sym (length-map rows _)))
         (λ i l. let r = there rows i (omega (arith, length-map new (λ (x : Row E). x .place))) in let n = only .samples i (r .0) (r .1) in place-of new i (n .0) (n .1) ∙ (n .2 .1 ∙ sym (place-of rows i (r .0) (r .1))))
+
+  pub samples-append : (rows : List (Row E)) (is js : List ℕ) → samples-at rows (is ++ js) ≡ samples-at rows is ++ samples-at rows js
+  samples-append rows [] js = refl
+  samples-append rows (i ∷ is) js = on (nth rows i) (samples-append rows is js)
+    where
+      on : (o : Option (Row E)) → samples-at rows (is ++ js) ≡ samples-at rows is ++ samples-at rows js → sample-on o (samples-at rows (is ++ js)) ≡ sample-on o (samples-at rows is) ++ samples-at rows js
+      on None e = e
+      on (Some r) e = ap (λ z. sample-in r ∷ z) e
+
+  -- a row that is none of those listed may change
+  pub samples-other : (rows : List (Row E)) (at : ℕ) (f : Row E → Row E) (is : List ℕ) → Absent at is → samples-at (changed at f rows) is ≡ samples-at rows is
+  samples-other rows at f [] a = refl
+  samples-other rows at f (i ∷ is) a =
+      ap (λ o. sample-on o (samples-at (changed at f rows) is)) (nth-unchanged rows at i f (λ e. a .0 (sym e))) ∙ ap (sample-on (nth rows i)) (samples-other rows at f is (a .1))
+
+  -- a change that keeps the place of a row keeps all places
+  pub places-kept : (rows : List (Row E)) (at : ℕ) (f : Row E → Row E) → ((r : Row E) → f r .place ≡ r .place) → places (changed at f rows) ≡ places rows
+  places-kept [] at f k = refl
+  places-kept (r ∷ rs) zero f k = ap (λ p. p ∷ places rs) (k r)
+  places-kept (r ∷ rs) (suc at) f k = ap (λ z. r .place ∷ z) (places-kept rs at f k)

@@ -4,7 +4,7 @@ use mathlib.Core.Path.{_≡_, refl, sym, ap, subst, _∙_}
 use Prim.Native.Nat.{ℕ, zero, suc, _+_, _-_, _≤_, _<_}
 use native.Mathlib.Omega.{arith}
 use lib.ListN.{length, getD, set, take, drop}
-use Rattle.std.proofs.shelf.Lists.{set-split, set-getD, append-nil, append-assoc, take-append-drop, drop-take, drop-drop}
+use Rattle.std.proofs.shelf.Lists.{set-split, set-getD, append-nil, append-assoc, take-append-drop, drop-take, drop-drop, getD-take, length-set}
 use lib.Seq.{drop-cons}
 use Rattle.gnat_theory.specs.Shuffles.{Shuffle}
 use Rattle.gnat_theory.specs.Shuffles.Shuffle.{after, in-turn}
@@ -80,3 +80,20 @@ shuffled-enlisted s m ps l =
     let whole : take s ps ++ (marked ++ (y ∷ back)) ≡ ps = ap (λ z. take s ps ++ z) (sym rest) ∙ take-append-drop s ps in
     let there : Shuffle ℕ (y ∷ (x .marked ++ back)) (marked ++ (y ∷ back)) = in-turn _ _ _ (after y _ _ (shuffle-before back (x .marked) marked (x .same-marked))) (shuffle-back _ _ (shuffle-front marked y back)) in
     subst (Shuffle ℕ (swapped s (s + m) ps)) whole (subst (λ z. Shuffle ℕ z (take s ps ++ (marked ++ (y ∷ back)))) (sym (x .is)) (shuffle-behind (take s ps) _ _ there))
+
+take-set-below : (k i : ℕ) (x : ℕ) (ps : List ℕ) → take k (set ps i x) ≡ set (take k ps) i x
+take-set-below zero i x ps = refl
+take-set-below (suc k) i x [] = refl
+take-set-below (suc k) zero x (p ∷ ps) = refl
+take-set-below (suc k) (suc i) x (p ∷ ps) = ap (λ z. p ∷ z) (take-set-below k i x ps)
+
+-- an exchange among the first k
+pub take-swapped : (k i j : ℕ) (ps : List ℕ) → i < k → j < k → take k (swapped i j ps) ≡ swapped i j (take k ps)
+take-swapped k i j ps a b =
+    take-set-below k j (getD ps i 0) (set ps i (getD ps j 0))
+    ∙ (ap (λ z. set z j (getD ps i 0)) (take-set-below k i (getD ps j 0) ps)
+    ∙ (ap (λ x. set (set (take k ps) i x) j (getD ps i 0)) (sym (getD-take k ps j 0 b))
+    ∙ ap (λ x. set (set (take k ps) i (getD (take k ps) j 0)) j x) (sym (getD-take k ps i 0 a))))
+
+pub length-swapped : (i j : ℕ) (ps : List ℕ) → length (swapped i j ps) ≡ length ps
+length-swapped i j ps = length-set (set ps i (getD ps j 0)) j (getD ps i 0) ∙ length-set ps i (getD ps j 0)
