@@ -4,11 +4,11 @@ use mathlib.Core.Path.{_≡_, refl, sym, ap, subst, _∙_}
 use Prim.Native.Nat.{ℕ, zero, suc, _+_, _-_, _≤_, _<_}
 use native.Mathlib.Omega.{arith}
 use lib.ListN.{length, getD, set, take, drop}
-use Rattle.std.proofs.shelf.Lists.{set-split, set-getD, append-nil, append-assoc, take-append-drop, drop-take, drop-drop, getD-take, length-set}
+use Rattle.std.proofs.shelf.Lists.{set-split, set-getD, append-nil, append-assoc, take-append-drop, drop-take, drop-drop, getD-take, length-set, length-take-le, take-take, length-append, length-take, length-drop, take-set-le, getD-set-same, take-at, getD-at}
 use lib.Seq.{drop-cons}
 use Rattle.gnat_theory.specs.Shuffles.{Shuffle}
 use Rattle.gnat_theory.specs.Shuffles.Shuffle.{after, in-turn}
-use Rattle.gnat_theory.proofs.Shuffling.{shuffle-equal, shuffle-back, shuffle-behind, shuffle-before, shuffle-front}
+use Rattle.gnat_theory.proofs.Shuffling.{shuffle-equal, shuffle-back, shuffle-behind, shuffle-before, shuffle-front, length-shuffle}
 use Rattle.gnat_order.specs.Order.{swapped, behind}
 
 pub swapped-same : (i : ℕ) (ps : List ℕ) → swapped i i ps ≡ ps
@@ -97,3 +97,62 @@ take-swapped k i j ps a b =
 
 pub length-swapped : (i j : ℕ) (ps : List ℕ) → length (swapped i j ps) ≡ length ps
 length-swapped i j ps = length-set (set ps i (getD ps j 0)) j (getD ps i 0) ∙ length-set ps i (getD ps j 0)
+
+take-past : (k : ℕ) (xs ys : List ℕ) → length xs ≤ k → take k (xs ++ ys) ≡ xs ++ take (k - length xs) ys
+take-past k [] ys l = let e : k ≡ k - 0 = omega arith in ap (λ n. take n ys) e
+take-past zero (x ∷ xs) ys l = absurd (omega arith)
+take-past (suc k) (x ∷ xs) ys l =
+    let e : k - length xs ≡ suc k - suc (length xs) = omega arith in
+    ap (λ z. x ∷ z) (take-past k xs ys (omega arith) ∙ ap (λ n. xs ++ take n ys) e)
+
+-- the first k after an exchange among them
+pub swapped-firsts : (s m k : ℕ) (ps : List ℕ) → s + m < k → s + m < length ps → Shuffle ℕ (take k ps) (take k (swapped s (s + m) ps))
+swapped-firsts s m k ps a b =
+    let enough : s + m < length (take k ps) = simp length-take (omega arith) in
+    subst (Shuffle ℕ (take k ps)) (sym (take-swapped k s (s + m) ps (omega arith) a)) (shuffle-back _ _ (shuffled-enlisted s m (take k ps) enough))
+
+-- the first k after one of them is moved behind others of them
+pub behind-firsts : (at count k : ℕ) (ps : List ℕ) → at < count → count ≤ k → count ≤ length ps → Shuffle ℕ (take k ps) (take k (behind at count ps))
+behind-firsts at count k ps l a b =
+    let L = take count ps in
+    let x = getD ps at 0 in
+    let size : length L ≡ count = length-take-le count ps b in
+    let front = take at L in
+    let back = drop (suc at) L in
+    let same : take at ps ≡ front = sym (take-take at count ps (omega arith)) in
+    let read : getD L at 0 ≡ x = getD-take count ps at 0 l in
+    let whole : L ≡ front ++ (x ∷ back) = sym (take-append-drop at L) ∙ (ap (λ z. front ++ z) (drop-cons L at 0 (omega arith)) ∙ ap (λ z. front ++ (z ∷ back)) read) in
+    let moved : behind at count ps ≡ ((front ++ back) ++ (x ∷ [])) ++ drop count ps =
+          taken-behind at count ps l b ∙ (ap (λ z. (z ++ back) ++ (x ∷ drop count ps)) same ∙ sym (append-assoc (front ++ back) (x ∷ []) (drop count ps))) in
+    let long : length ((front ++ back) ++ (x ∷ [])) ≡ count = simp (length-append, length-take, length-drop) (omega arith) in
+    let rest = take (k - count) (drop count ps) in
+    let left : take k ps ≡ L ++ rest = ap (take k) (sym (take-append-drop count ps)) ∙ (take-past k L (drop count ps) (omega arith) ∙ ap (λ n. L ++ take (k - n) (drop count ps)) size) in
+    let right : take k (behind at count ps) ≡ ((front ++ back) ++ (x ∷ [])) ++ rest = ap (take k) moved ∙ (take-past k ((front ++ back) ++ (x ∷ [])) (drop count ps) (omega arith) ∙ ap (λ n. ((front ++ back) ++ (x ∷ [])) ++ take (k - n) (drop count ps)) long) in
+    let turned : Shuffle ℕ (front ++ (x ∷ back)) ((front ++ back) ++ (x ∷ [])) =
+          in-turn _ _ _ (shuffle-front front x back) (shuffle-back _ _ (subst (λ z. Shuffle ℕ ((front ++ back) ++ (x ∷ [])) (x ∷ z)) (append-nil (front ++ back)) (shuffle-front (front ++ back) x []))) in
+    subst (Shuffle ℕ (take k ps)) (sym right) (subst (λ z. Shuffle ℕ z (((front ++ back) ++ (x ∷ [])) ++ rest)) (sym (left ∙ ap (λ z. z ++ rest) whole)) (shuffle-before rest _ _ turned))
+
+pub length-behind : (at count : ℕ) (ps : List ℕ) → at < count → count ≤ length ps → length (behind at count ps) ≡ length ps
+length-behind at count ps l b = length-shuffle _ _ (shuffled-behind at count ps l b)
+
+-- those before a place that is exchanged with a later one
+pub take-before : (s m : ℕ) (ps : List ℕ) → take s (swapped s (s + m) ps) ≡ take s ps
+take-before s m ps = take-set-le s (set ps s (getD ps (s + m) 0)) (s + m) (getD ps s 0) (omega arith) ∙ take-set-le s ps s (getD ps (s + m) 0) (omega arith)
+
+-- what the later place then has
+pub getD-swapped : (s m : ℕ) (ps : List ℕ) → s + m < length ps → getD (swapped s (s + m) ps) (s + m) 0 ≡ getD ps s 0
+getD-swapped s m ps l = getD-set-same (set ps s (getD ps (s + m) 0)) (s + m) (getD ps s 0) 0 (simp length-set (omega arith))
+
+-- the first of the count after one is moved behind them
+pub take-behind : (at count : ℕ) (ps : List ℕ) → at < count → count ≤ length ps → take (count - 1) (behind at count ps) ≡ take at (take count ps) ++ drop (suc at) (take count ps)
+take-behind at count ps l b =
+    let left = take at ps ++ drop (suc at) (take count ps) in
+    let size : length left ≡ count - 1 = simp (length-append, length-take, length-drop) (omega arith) in
+    ap (take (count - 1)) (taken-behind at count ps l b) ∙ (take-at left (getD ps at 0 ∷ drop count ps) (count - 1) size ∙ ap (λ z. z ++ drop (suc at) (take count ps)) (sym (take-take at count ps (omega arith))))
+
+-- and the one behind
+pub getD-behind : (at count : ℕ) (ps : List ℕ) → at < count → count ≤ length ps → getD (behind at count ps) (count - 1) 0 ≡ getD ps at 0
+getD-behind at count ps l b =
+    let left = take at ps ++ drop (suc at) (take count ps) in
+    let size : length left ≡ count - 1 = simp (length-append, length-take, length-drop) (omega arith) in
+    ap (λ z. getD z (count - 1) 0) (taken-behind at count ps l b) ∙ getD-at left (getD ps at 0) (drop count ps) 0 (count - 1) size
