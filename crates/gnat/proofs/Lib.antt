@@ -1,3 +1,4 @@
 pub mod States
 pub mod Adding
 pub mod Dropping
+pub mod Orders
