@@ -62,15 +62,15 @@ module _ {E : Type 0} (dist : E → E → ℕ) (g : Gnat E) (o : Gnat-sound dist
   first-distinct =
       let cut : take (suc (g .standing + g .marked)) (take (capacity-of g) (places (now (g .rows)))) ≡ take (suc (g .standing + g .marked)) (places (now (g .rows))) = take-take (suc (g .standing + g .marked)) (capacity-of g) (places (now (g .rows))) (omega arith) in
       subst Distinct (cut ∙ one-more)
-        (distinct-left (take (suc (g .standing + g .marked)) (take (capacity-of g) (places (now (g .rows))))) (drop (suc (g .standing + g .marked)) (take (capacity-of g) (places (now (g .rows)))))
-          (subst Distinct (sym (take-append-drop (suc (g .standing + g .marked)) (take (capacity-of g) (places (now (g .rows)))))) (o .apart)))
+      (distinct-left (take (suc (g .standing + g .marked)) (take (capacity-of g) (places (now (g .rows))))) (drop (suc (g .standing + g .marked)) (take (capacity-of g) (places (now (g .rows)))))
+      (subst Distinct (sym (take-append-drop (suc (g .standing + g .marked)) (take (capacity-of g) (places (now (g .rows)))))) (o .apart)))
 
   -- the free row is none of the tree's
   pub free-apart : Distinct (free-row ∷ o .lies)
   free-apart =
       distinct-shuffle (take (g .standing + g .marked) (places (now (g .rows))) ++ (free-row ∷ [])) (free-row ∷ o .lies)
-        (in-turn _ _ _ (shuffle-front (take (g .standing + g .marked) (places (now (g .rows)))) free-row []) (after free-row _ _ (subst (λ z. Shuffle ℕ z (o .lies)) (sym (append-nil (take (g .standing + g .marked) (places (now (g .rows)))))) (shuffle-back _ _ (o .lists)))))
-        first-distinct
+      (in-turn _ _ _ (shuffle-front (take (g .standing + g .marked) (places (now (g .rows)))) free-row []) (after free-row _ _ (subst (λ z. Shuffle ℕ z (o .lies)) (sym (append-nil (take (g .standing + g .marked) (places (now (g .rows)))))) (shuffle-back _ _ (o .lists)))))
+      first-distinct
 
   pub free-within : free-row < length (now (g .rows))
   free-within =
@@ -99,8 +99,8 @@ module _ {E : Type 0} (dist : E → E → ℕ) (g : Gnat E) (o : Gnat-sound dist
     pub prepared-shows : Shows prepared (g .root) (o .tree) (o .lies)
     prepared-shows =
         frame relisted prepared (g .root) (o .tree) (o .lies)
-          (all-weaker (λ j. free-row ≡ j → ⊥) (Same relisted prepared) (λ j n. nth-unchanged relisted free-row j _ (λ i. n (sym i))) (o .lies) (free-apart .0))
-          (shows-placed (swapped (g .standing) (g .standing + g .marked) (places (now (g .rows)))) (now (g .rows)) (o .tree) (g .root) (o .lies) (o .shows))
+        (all-weaker (λ j. free-row ≡ j → ⊥) (Same relisted prepared) (λ j n. nth-unchanged relisted free-row j _ (λ i. n (sym i))) (o .lies) (free-apart .0))
+        (shows-placed (swapped (g .standing) (g .standing + g .marked) (places (now (g .rows)))) (now (g .rows)) (o .tree) (g .root) (o .lies) (o .shows))
 
     -- the new sample is there
     pub prepared-row : (row : Row E) × (nth prepared free-row ≡ Some row) × (sample-in row ≡ record { number = number; element = e })
@@ -119,7 +119,7 @@ module _ {E : Type 0} (dist : E → E → ℕ) (g : Gnat E) (o : Gnat-sound dist
     free-unlisted : Absent free-row (listed g)
     free-unlisted =
         subst (Absent free-row) (take-take (g .standing) (g .standing + g .marked) (places (now (g .rows))) (omega arith))
-          (all-take (λ j. free-row ≡ j → ⊥) (g .standing) (take (g .standing + g .marked) (places (now (g .rows)))) (distinct-across (take (g .standing + g .marked) (places (now (g .rows)))) (free-row ∷ []) first-distinct .0))
+        (all-take (λ j. free-row ≡ j → ⊥) (g .standing) (take (g .standing + g .marked) (places (now (g .rows)))) (distinct-across (take (g .standing + g .marked) (places (now (g .rows)))) (free-row ∷ []) first-distinct .0))
 
     prepared-samples : samples-at prepared (listed g ++ (free-row ∷ [])) ≡ standing-in g ++ (record { number = number; element = e } ∷ [])
     prepared-samples =
@@ -169,7 +169,7 @@ module _ {E : Type 0} (dist : E → E → ℕ) (g : Gnat E) (o : Gnat-sound dist
       add-tree =
           shown-tree rows grown-tree 1025 root lies shows (shallow dist rows root grown-tree lies (g .degree) (g .bucket) _ (o .two) grown-files shows (omega (arith, length-shuffle _ _ same-rows, rows-in-tree)))
           ∙ ap (λ t. grown dist (g .degree) (g .bucket) (record { number = number; element = e }) t)
-            (sym (shown-tree (now (g .rows)) (o .tree) 1025 (g .root) (o .lies) (o .shows) (shallow dist (now (g .rows)) (g .root) (o .tree) (o .lies) (g .degree) (g .bucket) _ (o .two) (o .files) (o .shows) (omega (arith, rows-in-tree)))))
+          (sym (shown-tree (now (g .rows)) (o .tree) 1025 (g .root) (o .lies) (o .shows) (shallow dist (now (g .rows)) (g .root) (o .tree) (o .lies) (g .degree) (g .bucket) _ (o .two) (o .files) (o .shows) (omega (arith, rows-in-tree)))))
 
       -- those in use after it
       lists-more : Shuffle ℕ lies (take (suc (g .standing + g .marked)) (places rows))
@@ -181,7 +181,7 @@ module _ {E : Type 0} (dist : E → E → ℕ) (g : Gnat E) (o : Gnat-sound dist
           let enough : s + m < length front = omega (arith, length-take-le (suc (s + m)) ps (omega (arith, long))) in
           let same : take (suc (s + m)) (places rows) ≡ swapped s (s + m) front = ap (take (suc (s + m))) new-places ∙ take-swapped (suc (s + m)) s (s + m) ps (omega arith) (omega arith) in
           let there : Shuffle ℕ (free-row ∷ o .lies) (take (s + m) ps ++ (free-row ∷ [])) =
-                in-turn _ _ _ (after free-row _ _ (o .lists)) (shuffle-back _ _ (subst (λ z. Shuffle ℕ (take (s + m) ps ++ (free-row ∷ [])) (free-row ∷ z)) (append-nil (take (s + m) ps)) (shuffle-front (take (s + m) ps) free-row []))) in
+          in-turn _ _ _ (after free-row _ _ (o .lists)) (shuffle-back _ _ (subst (λ z. Shuffle ℕ (take (s + m) ps ++ (free-row ∷ [])) (free-row ∷ z)) (append-nil (take (s + m) ps)) (shuffle-front (take (s + m) ps) free-row []))) in
           in-turn _ _ _ same-rows (in-turn _ _ _ (subst (Shuffle ℕ (free-row ∷ o .lies)) (sym one-more) there) (subst (Shuffle ℕ front) (sym same) (shuffle-back _ _ (shuffled-enlisted s m front enough))))
 
       -- it stays sound
@@ -194,13 +194,16 @@ module _ {E : Type 0} (dist : E → E → ℕ) (g : Gnat E) (o : Gnat-sound dist
           let front = take (capacity-of g) ps in
           let enough : s + m < length front = omega (arith, length-take-le (capacity-of g) ps (omega (arith, long))) in
           let listing : take (capacity-of h) (places (now (h .rows))) ≡ swapped s (s + m) front =
-                ap (λ k. take k (places (now (h .rows)))) cap ∙ (ap (take (capacity-of g)) (ap places rs ∙ new-places) ∙ take-swapped (capacity-of g) s (s + m) ps (omega arith) roomy) in
+          ap (λ k. take k (places (now (h .rows)))) cap ∙ (ap (take (capacity-of g)) (ap places rs ∙ new-places) ∙ take-swapped (capacity-of g) s (s + m) ps (omega arith) roomy) in
           let moved : Shuffle ℕ front (take (capacity-of h) (places (now (h .rows)))) = subst (Shuffle ℕ front) (sym listing) (shuffle-back _ _ (shuffled-enlisted s m front enough)) in
           let stands : standing-in h ≡ standing-in g ++ (record { number = number; element = e } ∷ []) =
-                ap (λ k. samples-at (now (h .rows)) (take k (places (now (h .rows))))) st ∙ (ap (λ z. samples-at z (take (s + 1) (places z))) rs ∙ new-standing) in
+          ap (λ k. samples-at (now (h .rows)) (take k (places (now (h .rows))))) st ∙ (ap (λ z. samples-at z (take (s + 1) (places z))) rs ∙ new-standing) in
           let used : h .standing + h .marked ≡ suc (s + m) = omega arith in
           record {
-            two = omega (arith, o .two); eight = omega (arith, o .eight); room = omega (arith, o .room); most = omega (arith, o .most);
+            two = omega (arith, o .two);
+            eight = omega (arith, o .eight);
+            room = omega (arith, o .room);
+            most = omega (arith, o .most);
             last-bound = omega arith;
             in-use = omega arith;
             within = subst (λ k. Within (take (capacity-of h) (places (now (h .rows)))) k) (sym cap) (all-shuffle (λ i. i < capacity-of g) _ _ moved (o .within));
@@ -210,4 +213,5 @@ module _ {E : Type 0} (dist : E → E → ℕ) (g : Gnat E) (o : Gnat-sound dist
             lies = lies;
             shows = subst (λ n. Shows (now (h .rows)) n grown-tree lies) (sym rt) (subst (λ z. Shows z root grown-tree lies) (sym rs) shows);
             lists = subst (λ k. Shuffle ℕ lies (take k (places (now (h .rows))))) (sym used) (subst (λ z. Shuffle ℕ lies (take (suc (s + m)) (places z))) (sym rs) lists-more);
-            files = subst (λ d. Files dist d (h .bucket) (standing-in h) grown-tree) (sym dg) (subst (λ b. Files dist (g .degree) b (standing-in h) grown-tree) (sym bk) (subst (λ xs. Files dist (g .degree) (g .bucket) xs grown-tree) (sym stands) grown-files)) }
+            files = subst (λ d. Files dist d (h .bucket) (standing-in h) grown-tree) (sym dg) (subst (λ b. Files dist (g .degree) b (standing-in h) grown-tree) (sym bk) (subst (λ xs. Files dist (g .degree) (g .bucket) xs grown-tree) (sym stands) grown-files));
+          }

@@ -55,6 +55,7 @@ minus-two i x y xs = go (eqb x i) (eqb y i)
   where
     rest : List ℕ
     rest = minus i xs
+
     go : (a b : Bool) → Shuffle ℕ (cond a (cond b rest (y ∷ rest)) (x ∷ cond b rest (y ∷ rest))) (cond b (cond a rest (x ∷ rest)) (y ∷ cond a rest (x ∷ rest)))
     go true true = same-order rest
     go true false = same-order (y ∷ rest)
@@ -100,9 +101,9 @@ module _ {E : Type 0} where
 -- The sample n, listed at place i, is dropped: `rows` and `root` show the tree without it, in the rows `lies`, and R is the
 -- new order, in which the others that stood come first.
 module _ {E : Type 0} (dist : E → E → ℕ) (g : Gnat E) (o : Gnat-sound dist g) (i n : ℕ) (inside : i < g .standing) (r : Row E) (is-row : nth (now (g .rows)) (getD (places (now (g .rows))) i 0) ≡ Some r) (is-number : r .number ≡ n)
-  (rows : List (Row E)) (root : Node) (lies : List ℕ) (shows : Shows rows root (shrunk n (o .tree)) lies) (only : Only-in (o .lies) (now (g .rows)) rows) (kept-length : length rows ≡ length (now (g .rows)))
-  (R : List ℕ) (marked : ℕ) (R-length : length R ≡ length (now (g .rows))) (first : take (g .standing - 1) R ≡ take i (listed g) ++ drop (suc i) (listed g))
-  (all-same : Shuffle ℕ (take (capacity-of g) (places (now (g .rows)))) (take (capacity-of g) R)) (fits : (g .standing - 1) + marked ≤ capacity-of g) (lists : Shuffle ℕ lies (take ((g .standing - 1) + marked) R)) where
+    (rows : List (Row E)) (root : Node) (lies : List ℕ) (shows : Shows rows root (shrunk n (o .tree)) lies) (only : Only-in (o .lies) (now (g .rows)) rows) (kept-length : length rows ≡ length (now (g .rows)))
+    (R : List ℕ) (marked : ℕ) (R-length : length R ≡ length (now (g .rows))) (first : take (g .standing - 1) R ≡ take i (listed g) ++ drop (suc i) (listed g))
+    (all-same : Shuffle ℕ (take (capacity-of g) (places (now (g .rows)))) (take (capacity-of g) R)) (fits : (g .standing - 1) + marked ≤ capacity-of g) (lists : Shuffle ℕ lies (take ((g .standing - 1) + marked) R)) where
   long : length (places (now (g .rows))) ≡ length (now (g .rows))
   long = length-map (now (g .rows)) (λ (x : Row E). x .place)
 
@@ -163,7 +164,10 @@ module _ {E : Type 0} (dist : E → E → ℕ) (g : Gnat E) (o : Gnat-sound dist
       let stands : standing-in h ≡ without n (standing-in g) = ap (λ k. samples-at (now (h .rows)) (take k (places (now (h .rows))))) st ∙ (ap (λ z. samples-at z (take (g .standing - 1) (places z))) rs ∙ left-standing) in
       let used : h .standing + h .marked ≡ (g .standing - 1) + marked = omega arith in
       record {
-        two = omega (arith, o .two); eight = omega (arith, o .eight); room = omega (arith, o .room); most = omega (arith, o .most);
+        two = omega (arith, o .two);
+        eight = omega (arith, o .eight);
+        room = omega (arith, o .room);
+        most = omega (arith, o .most);
         last-bound = omega (arith, o .last-bound);
         in-use = omega arith;
         within = subst (λ k. Within (take (capacity-of h) (places (now (h .rows)))) k) (sym cap) (subst (λ z. Within z (capacity-of g)) (sym listing) (all-shuffle (λ k. k < capacity-of g) _ _ all-same (o .within)));
@@ -173,4 +177,5 @@ module _ {E : Type 0} (dist : E → E → ℕ) (g : Gnat E) (o : Gnat-sound dist
         lies = lies;
         shows = subst (λ x. Shows (now (h .rows)) x (shrunk n (o .tree)) lies) (sym rt) (subst (λ z. Shows z root (shrunk n (o .tree)) lies) (sym rs) new-shows);
         lists = subst (λ k. Shuffle ℕ lies (take k (places (now (h .rows))))) (sym used) (subst (λ ps. Shuffle ℕ lies (take ((g .standing - 1) + marked) ps)) (sym (ap places rs ∙ new-places)) lists);
-        files = subst (λ d. Files dist d (h .bucket) (standing-in h) (shrunk n (o .tree))) (sym dg) (subst (λ b. Files dist (g .degree) b (standing-in h) (shrunk n (o .tree))) (sym bk) (subst (λ xs. Files dist (g .degree) (g .bucket) xs (shrunk n (o .tree))) (sym stands) shrunk-files)) }
+        files = subst (λ d. Files dist d (h .bucket) (standing-in h) (shrunk n (o .tree))) (sym dg) (subst (λ b. Files dist (g .degree) b (standing-in h) (shrunk n (o .tree))) (sym bk) (subst (λ xs. Files dist (g .degree) (g .bucket) xs (shrunk n (o .tree))) (sym stands) shrunk-files));
+      }

@@ -2,3 +2,4 @@ pub mod States
 pub mod Adding
 pub mod Dropping
 pub mod Orders
+pub mod Rebuilding

@@ -79,10 +79,10 @@ module _ {E : Type 0} (dist : E → E → ℕ) (g : Gnat E) (o : Gnat-sound dist
       let count : g .standing + g .marked ≡ suc ((g .standing - 1) + g .marked) = omega arith in
       let last : getD freed ((g .standing - 1) + g .marked) 0 ≡ dropped-row = getD-swapped (g .standing - 1) (g .marked) moved last-in-use ∙ getD-behind i (g .standing) (places (now (g .rows))) inside fit in
       let cut : take (suc ((g .standing - 1) + g .marked)) freed ≡ take ((g .standing - 1) + g .marked) freed ++ (dropped-row ∷ []) =
-            take-suc freed ((g .standing - 1) + g .marked) 0 (omega (arith, freed-length, moved-length, last-in-use)) ∙ ap (λ x. take ((g .standing - 1) + g .marked) freed ++ (x ∷ [])) last in
+      take-suc freed ((g .standing - 1) + g .marked) 0 (omega (arith, freed-length, moved-length, last-in-use)) ∙ ap (λ x. take ((g .standing - 1) + g .marked) freed ++ (x ∷ [])) last in
       subst (Shuffle ℕ (o .lies)) cut
-        (in-turn _ _ _ (subst (λ k. Shuffle ℕ (o .lies) (take k moved)) count moved-in-use)
-          (swapped-firsts (g .standing - 1) (g .marked) (suc ((g .standing - 1) + g .marked)) moved (omega arith) last-in-use))
+      (in-turn _ _ _ (subst (λ k. Shuffle ℕ (o .lies) (take k moved)) count moved-in-use)
+      (swapped-firsts (g .standing - 1) (g .marked) (suc ((g .standing - 1) + g .marked)) moved (omega arith) last-in-use))
 
   in-tree-distinct : Distinct (o .lies)
   in-tree-distinct =

@@ -47,7 +47,10 @@ module _ {E : Type 0} (dist : E → E → ℕ) (rows new : List (Row E)) (count 
       let none : g .standing + g .marked ≡ 0 = omega arith in
       let nobody : standing-in g ≡ [] = ap (λ k. samples-at (now (g .rows)) (take k (places (now (g .rows))))) standing in
       record {
-        two = two; eight = eight; room = room; most = most;
+        two = two;
+        eight = eight;
+        room = room;
+        most = most;
         last-bound = omega arith;
         in-use = omega arith;
         within = subst (λ k. Within (take (capacity-of g) (places (now (g .rows)))) k) (sym cap) (subst (λ z. Within z count) (sym listing) (subst (Within (take count (counted count (places rows)))) (omega arith) (counted-within 0 count (places rows) enough)));
@@ -57,4 +60,5 @@ module _ {E : Type 0} (dist : E → E → ℕ) (rows new : List (Row E)) (count 
         lies = [];
         shows = (record { count = 0; rows = replicate 32 0 }, root, refl, omega arith, refl, tt);
         lists = subst (λ k. Shuffle ℕ [] (take k (places (now (g .rows))))) (sym none) nothing;
-        files = subst (λ xs. Files dist (g .degree) (g .bucket) xs (leaf [])) (sym nobody) (keeps-tree dist (g .degree) (g .bucket) (omega arith) room .at-first) }
+        files = subst (λ xs. Files dist (g .degree) (g .bucket) xs (leaf [])) (sym nobody) (keeps-tree dist (g .degree) (g .bucket) (omega arith) room .at-first);
+      }

@@ -23,7 +23,7 @@ module _ {E : Type 0} (dist : E → E → ℕ) (g : Gnat E) (o : Gnat-sound dist
   listed-within =
       let few : g .standing ≤ capacity-of g = omega (arith, o .in-use) in
       subst (λ ps. Within ps (length (now (g .rows)))) (take-take (g .standing) (capacity-of g) (places (now (g .rows))) few)
-        (within-take (g .standing) (length (now (g .rows))) (take (capacity-of g) (places (now (g .rows)))) (within-wider (capacity-of g) (length (now (g .rows))) (take (capacity-of g) (places (now (g .rows)))) (omega arith) (o .within)))
+      (within-take (g .standing) (length (now (g .rows))) (take (capacity-of g) (places (now (g .rows)))) (within-wider (capacity-of g) (length (now (g .rows))) (take (capacity-of g) (places (now (g .rows)))) (omega arith) (o .within)))
 
   pub standing-count : length (standing-in g) ≡ g .standing
   standing-count = length-samples-at (now (g .rows)) (listed g) listed-within ∙ length-take-le (g .standing) (places (now (g .rows))) (omega (arith, in-rows, length-map (now (g .rows)) (λ (r : Row E). r .place)))

@@ -8,8 +8,11 @@ ghost use mathlib.Core.List.{[]};
 ghost use Rattle.gnat_order.specs.Order.{Listed};
 ghost use Rattle.gnat.specs.Gnats.{capacity-of, gnat-meaning, gnat-tree, Gnat-sound};
 use crate::settings::Settings;
-use gnat_order::{find, list_rows};
-use gnat_rows::{EMPTY, Node, Row};
+use gnat_order::find;
+use gnat_order::list_rows;
+use gnat_rows::EMPTY;
+use gnat_rows::Node;
+use gnat_rows::Row;
 use metric::Metric;
 
 // The tree lies in the rows, from the node `root` on. So many samples stand, and so many more are marked.
@@ -45,6 +48,7 @@ impl<'a, E: Metric> Gnat<'a, E> {
             last: 0,
         }
     }
+
     fn capacity(&self) -> usize
         ensures { λ r. ⌜ r ≡ capacity-of (now (self .entry)) ⌝ }
     {

@@ -123,13 +123,13 @@ behind-firsts at count k ps l a b =
     let read : getD L at 0 ≡ x = getD-take count ps at 0 l in
     let whole : L ≡ front ++ (x ∷ back) = sym (take-append-drop at L) ∙ (ap (λ z. front ++ z) (drop-cons L at 0 (omega arith)) ∙ ap (λ z. front ++ (z ∷ back)) read) in
     let moved : behind at count ps ≡ ((front ++ back) ++ (x ∷ [])) ++ drop count ps =
-          taken-behind at count ps l b ∙ (ap (λ z. (z ++ back) ++ (x ∷ drop count ps)) same ∙ sym (append-assoc (front ++ back) (x ∷ []) (drop count ps))) in
+    taken-behind at count ps l b ∙ (ap (λ z. (z ++ back) ++ (x ∷ drop count ps)) same ∙ sym (append-assoc (front ++ back) (x ∷ []) (drop count ps))) in
     let long : length ((front ++ back) ++ (x ∷ [])) ≡ count = simp (length-append, length-take, length-drop) (omega arith) in
     let rest = take (k - count) (drop count ps) in
     let left : take k ps ≡ L ++ rest = ap (take k) (sym (take-append-drop count ps)) ∙ (take-past k L (drop count ps) (omega arith) ∙ ap (λ n. L ++ take (k - n) (drop count ps)) size) in
     let right : take k (behind at count ps) ≡ ((front ++ back) ++ (x ∷ [])) ++ rest = ap (take k) moved ∙ (take-past k ((front ++ back) ++ (x ∷ [])) (drop count ps) (omega arith) ∙ ap (λ n. ((front ++ back) ++ (x ∷ [])) ++ take (k - n) (drop count ps)) long) in
     let turned : Shuffle ℕ (front ++ (x ∷ back)) ((front ++ back) ++ (x ∷ [])) =
-          in-turn _ _ _ (shuffle-front front x back) (shuffle-back _ _ (subst (λ z. Shuffle ℕ ((front ++ back) ++ (x ∷ [])) (x ∷ z)) (append-nil (front ++ back)) (shuffle-front (front ++ back) x []))) in
+    in-turn _ _ _ (shuffle-front front x back) (shuffle-back _ _ (subst (λ z. Shuffle ℕ ((front ++ back) ++ (x ∷ [])) (x ∷ z)) (append-nil (front ++ back)) (shuffle-front (front ++ back) x []))) in
     subst (Shuffle ℕ (take k ps)) (sym right) (subst (λ z. Shuffle ℕ z (((front ++ back) ++ (x ∷ [])) ++ rest)) (sym (left ∙ ap (λ z. z ++ rest) whole)) (shuffle-before rest _ _ turned))
 
 pub length-behind : (at count : ℕ) (ps : List ℕ) → at < count → count ≤ length ps → length (behind at count ps) ≡ length ps

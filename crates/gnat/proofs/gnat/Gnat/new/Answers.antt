@@ -13,4 +13,5 @@ returns g c =
       fresh = new-means dist rows (c .list-rows .last .rows) (c .min-capacity .result) (c .min-capacity .ensures) (c .list-rows .ensures);
       tree = refl;
       degree = refl;
-      bucket = refl }
+      bucket = refl;
+    }

@@ -1,0 +1,161 @@
+-- The state of a GNAT whose standing samples are filed anew. Assumes nothing.
+use mathlib.Core.List.{List, [], _∷_, _++_}
+use mathlib.Core.Path.{_≡_, refl, sym, ap, subst, _∙_}
+use Prim.Native.Nat.{ℕ, zero, suc, _+_, _≤_, _<_, min}
+use native.Mathlib.Omega.{arith}
+use denote.Ref.{now}
+use lib.ListN.{length, getD, take, replicate}
+use lib.Seq.{take-suc}
+use Rattle.std.specs.Finite.{nth}
+use Rattle.std.specs.shelf.Lists.{All}
+use Rattle.std.specs.declared.option.Option.the-variants.{Some}
+use Rattle.std.proofs.shelf.Elements.{all-take, all-getD}
+use Rattle.std.proofs.shelf.Lists.{append-nil, length-take, length-take-le, length-map, take-all}
+use Rattle.hits.specs.Samples.{Sample, Rising}
+use Rattle.index.specs.Meaning.{Meaning}
+use Rattle.gnat_theory.specs.Tree.{Tree}
+use Rattle.gnat_theory.specs.Tree.Tree.{leaf}
+use Rattle.gnat_theory.specs.Filing.{filed, filed-all}
+use Rattle.gnat_theory.specs.Splitting.{grown, kept-or-split}
+use Rattle.gnat_theory.specs.Rebuilding.{rebuilt}
+use Rattle.gnat_theory.specs.Keeping.{Files}
+use Rattle.gnat_theory.specs.Shuffles.{Shuffle}
+use Rattle.gnat_theory.specs.Shuffles.Shuffle.{nothing, after, in-turn}
+use Rattle.gnat_theory.proofs.Shuffling.{shuffle-back, shuffle-front, all-shuffle, length-shuffle}
+use Rattle.gnat_theory.proofs.Theorems.{keeps-tree}
+use Rattle.gnat_rows.specs.declared.Node.{Node}
+use Rattle.gnat_rows.specs.declared.Row.{Row}
+use Rattle.gnat_rows.specs.Rows.{empty}
+use Rattle.gnat_rows.specs.Lying.{Absent, Distinct, Only-in}
+use Rattle.gnat_rows.specs.Shows.{Shows, sample-in}
+use Rattle.gnat_rows.specs.Trees.{sample-on, samples-at, tree-of}
+use Rattle.gnat_rows.proofs.Apart.{distinct-left, distinct-shuffle}
+use Rattle.gnat_rows.proofs.Only.{only-none, only-wider, only-then}
+use Rattle.gnat_rows.proofs.Trees.{shown-tree}
+use Rattle.gnat_order.specs.Order.{Within, places}
+use Rattle.gnat_order.proofs.Numbers.{there, length-samples-at}
+use Rattle.gnat_order.proofs.Framing.{samples-only, places-only, samples-append}
+use Rattle.gnat.specs.declared.gnat.Gnat.{Gnat}
+use Rattle.gnat.specs.Gnats.{capacity-of, listed, standing-in, gnat-meaning, gnat-tree, Gnat-sound}
+use Rattle.gnat.specs.Lawful.{in-rows, listed-within, standing-count}
+use Rattle.gnat.proofs.Adding.{shallow}
+
+module _ {E : Type 0} (dist : E → E → ℕ) where
+  filed-push : (became : List (Sample E) → Tree E) (xs : List (Sample E)) (s : Sample E) (t : Tree E) → filed-all dist became (xs ++ (s ∷ [])) t ≡ filed dist became s (filed-all dist became xs t)
+  filed-push became [] s t = refl
+  filed-push became (x ∷ xs) s t = filed-push became xs s (filed dist became x t)
+
+  -- one more sample filed anew
+  rebuilt-more : (degree bucket : ℕ) (xs : List (Sample E)) (s : Sample E) → rebuilt dist degree bucket (xs ++ (s ∷ [])) ≡ grown dist degree bucket s (rebuilt dist degree bucket xs)
+  rebuilt-more degree bucket xs s = filed-push (kept-or-split dist degree bucket) xs s (leaf [])
+
+  module _ (degree bucket : ℕ) (rows : List (Row E)) (order : List ℕ) where
+    -- After j of the rows in this order: the node shows the tree of their samples, which lies in them, and only these
+    -- rows have changed, but not their samples or places.
+    pub record Refiled (j : ℕ) (new : List (Row E)) (root : Node) : Type 0 where
+      pub lies : List ℕ
+      pub shows : Shows new root (rebuilt dist degree bucket (samples-at rows (take j order))) lies
+      pub same-rows : Shuffle ℕ lies (take j order)
+      pub only : Only-in order rows new
+      pub as-long : length new ≡ length rows
+
+    module _ (within : Within order (length rows)) (j : ℕ) (inside : j < length order) (new later : List (Row E)) (root grown-root : Node) (f : Refiled j new root) (row : Row E) (is-row : nth new (getD order j 0) ≡ Some row)
+        (lies : List ℕ) (shows : Shows later grown-root (grown dist degree bucket (sample-in row) (rebuilt dist degree bucket (samples-at rows (take j order)))) lies) (same-rows : Shuffle ℕ lies (getD order j 0 ∷ f .lies)) (only : Only-in (getD order j 0 ∷ f .lies) new later) (as-long : length later ≡ length new) where
+      more : take (suc j) order ≡ take j order ++ (getD order j 0 ∷ [])
+      more = take-suc order j 0 inside
+
+      -- the sample is as it was
+      same-sample : samples-at rows (getD order j 0 ∷ []) ≡ sample-in row ∷ []
+      same-sample =
+          let old = there rows (getD order j 0) (all-getD (λ k. k < length rows) order j 0 inside within) in
+          let n = f .only .samples (getD order j 0) (old .0) (old .1) in
+          let one : n .0 ≡ row = same-some (sym (n .1) ∙ is-row) in
+          ap (λ r. sample-on r []) (old .1) ∙ ap (λ x. x ∷ []) (sym (n .2 .0) ∙ ap sample-in one)
+        where
+          same-some : {x y : Row E} → Some x ≡ Some y → x ≡ y
+          same-some e = cc
+
+      next-tree : rebuilt dist degree bucket (samples-at rows (take (suc j) order)) ≡ grown dist degree bucket (sample-in row) (rebuilt dist degree bucket (samples-at rows (take j order)))
+      next-tree =
+          ap (λ is. rebuilt dist degree bucket (samples-at rows is)) more
+          ∙ (ap (rebuilt dist degree bucket) (samples-append rows (take j order) (getD order j 0 ∷ []) ∙ ap (λ z. samples-at rows (take j order) ++ z) same-sample)
+          ∙ rebuilt-more degree bucket (samples-at rows (take j order)) (sample-in row))
+
+      in-order : Shuffle ℕ lies (take (suc j) order)
+      in-order =
+          let turned : Shuffle ℕ (take j order ++ (getD order j 0 ∷ [])) (getD order j 0 ∷ take j order) = subst (λ z. Shuffle ℕ (take j order ++ (getD order j 0 ∷ [])) (getD order j 0 ∷ z)) (append-nil (take j order)) (shuffle-front (take j order) (getD order j 0) []) in
+          in-turn _ _ _ same-rows (in-turn _ _ _ (after (getD order j 0) _ _ (f .same-rows)) (subst (Shuffle ℕ (getD order j 0 ∷ take j order)) (sym more) (shuffle-back _ _ turned)))
+
+      pub refiled-more : Refiled (suc j) later grown-root
+      refiled-more = record {
+        lies = lies;
+        shows = subst (λ t. Shows later grown-root t lies) (sym next-tree) shows;
+        same-rows = in-order;
+        only = only-then rows new later order (f .only) (only-wider new later (getD order j 0 ∷ f .lies) order (λ i a. all-shuffle (λ k. i ≡ k → ⊥) _ _ (in-turn _ _ _ (shuffle-back _ _ in-order) same-rows) (all-take (λ k. i ≡ k → ⊥) (suc j) order a)) only);
+        as-long = as-long ∙ f .as-long;
+      }
+
+    -- before any is filed
+    pub refiled-none : Refiled 0 rows empty
+    refiled-none = record { lies = []; shows = (record { count = 0; rows = replicate 32 0 }, refl, refl, omega arith, refl, tt); same-rows = nothing; only = only-none rows order; as-long = refl }
+
+-- all that stand are filed anew: the marked rows are free
+module _ {E : Type 0} (dist : E → E → ℕ) (g : Gnat E) (o : Gnat-sound dist g) (new : List (Row E)) (root : Node) (f : Refiled dist (g .degree) (g .bucket) (now (g .rows)) (listed g) (g .standing) new root) where
+  long : length (places (now (g .rows))) ≡ length (now (g .rows))
+  long = length-map (now (g .rows)) (λ (r : Row E). r .place)
+
+  whole : take (g .standing) (listed g) ≡ listed g
+  whole = take-all (g .standing) (listed g) (omega (arith, length-take-le (g .standing) (places (now (g .rows))) (omega (arith, in-rows dist g o, long))))
+
+  new-places : places new ≡ places (now (g .rows))
+  new-places = places-only (listed g) (now (g .rows)) new (f .only) (f .as-long)
+
+  new-samples : samples-at new (listed g) ≡ standing-in g
+  new-samples = samples-only (listed g) (now (g .rows)) new (f .only) (f .as-long) (listed g) (listed-within dist g o)
+
+  new-standing : samples-at new (take (g .standing) (places new)) ≡ standing-in g
+  new-standing = ap (λ ps. samples-at new (take (g .standing) ps)) new-places ∙ new-samples
+
+  same-capacity : min (length new) 1024 ≡ capacity-of g
+  same-capacity = ap (λ n. min n 1024) (f .as-long)
+
+  abbrev new-tree : Tree E
+  new-tree = rebuilt dist (g .degree) (g .bucket) (standing-in g)
+
+  new-shows : Shows new root new-tree (f .lies)
+  new-shows = subst (λ is. Shows new root (rebuilt dist (g .degree) (g .bucket) (samples-at (now (g .rows)) is)) (f .lies)) whole (f .shows)
+
+  new-files : Files dist (g .degree) (g .bucket) (standing-in g) new-tree
+  new-files = keeps-tree dist (g .degree) (g .bucket) (omega (arith, o .two)) (o .room) .by-rebuilding (standing-in g) .files
+
+  few : length (f .lies) ≤ 1024
+  few = omega (arith, length-shuffle _ _ (f .same-rows), ap length whole, length-take (g .standing) (places (now (g .rows))), o .in-use)
+
+  pub rebuild-means : record { capacity = min (length new) 1024; last = g .last; standing = samples-at new (take (g .standing) (places new)) } ≡ gnat-meaning g
+  rebuild-means = λ i. record { capacity = same-capacity i; last = g .last; standing = new-standing i }
+
+  pub rebuild-tree : tree-of 1025 new root ≡ rebuilt dist (g .degree) (g .bucket) (standing-in g)
+  rebuild-tree = shown-tree new new-tree 1025 root (f .lies) new-shows (shallow dist new root new-tree (f .lies) (g .degree) (g .bucket) _ (o .two) new-files new-shows few)
+
+  pub rebuild-sound : (h : Gnat E) → now (h .rows) ≡ new → h .root ≡ root → h .degree ≡ g .degree → h .bucket ≡ g .bucket → h .standing ≡ g .standing → h .marked ≡ 0 → h .last ≡ g .last → Gnat-sound dist h
+  rebuild-sound h rs rt dg bk st mk ls =
+      let cap : capacity-of h ≡ capacity-of g = ap (λ z. min (length z) 1024) rs ∙ same-capacity in
+      let listing : take (capacity-of h) (places (now (h .rows))) ≡ take (capacity-of g) (places (now (g .rows))) = ap (λ k. take k (places (now (h .rows)))) cap ∙ ap (take (capacity-of g)) (ap places rs ∙ new-places) in
+      let stands : standing-in h ≡ standing-in g = ap (λ k. samples-at (now (h .rows)) (take k (places (now (h .rows))))) st ∙ (ap (λ z. samples-at z (take (g .standing) (places z))) rs ∙ new-standing) in
+      let used : h .standing + h .marked ≡ g .standing = omega arith in
+      record {
+        two = omega (arith, o .two);
+        eight = omega (arith, o .eight);
+        room = omega (arith, o .room);
+        most = omega (arith, o .most);
+        last-bound = omega (arith, o .last-bound);
+        in-use = omega (arith, o .in-use);
+        within = subst (λ k. Within (take (capacity-of h) (places (now (h .rows)))) k) (sym cap) (subst (λ z. Within z (capacity-of g)) (sym listing) (o .within));
+        apart = subst Distinct (sym listing) (o .apart);
+        rising = subst (λ k. Rising 0 k (standing-in h)) (sym ls) (subst (Rising 0 (g .last)) (sym stands) (o .rising));
+        tree = new-tree;
+        lies = f .lies;
+        shows = subst (λ n. Shows (now (h .rows)) n new-tree (f .lies)) (sym rt) (subst (λ z. Shows z root new-tree (f .lies)) (sym rs) new-shows);
+        lists = subst (λ k. Shuffle ℕ (f .lies) (take k (places (now (h .rows))))) (sym used) (subst (λ ps. Shuffle ℕ (f .lies) (take (g .standing) ps)) (sym (ap places rs ∙ new-places)) (subst (Shuffle ℕ (f .lies)) whole (f .same-rows)));
+        files = subst (λ d. Files dist d (h .bucket) (standing-in h) new-tree) (sym dg) (subst (λ b. Files dist (g .degree) b (standing-in h) new-tree) (sym bk) (subst (λ xs. Files dist (g .degree) (g .bucket) xs new-tree) (sym stands) new-files));
+      }
