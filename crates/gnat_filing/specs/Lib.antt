@@ -1,0 +1,5 @@
+pub mod Widening
+pub mod Filed
+pub mod Leaf
+pub mod Choosing
+pub mod Filling
