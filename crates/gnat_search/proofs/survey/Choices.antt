@@ -1,0 +1,4 @@
+use Rattle.gnat_search.proofs.survey.Given as given
+
+abbrev pub Inv-loop-i : given.InvT-loop-i
+Inv-loop-i g l = ?
