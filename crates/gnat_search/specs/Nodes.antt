@@ -1,13 +1,13 @@
 -- What a search does at the nodes that it visits.
-use mathlib.Core.Bool.{Bool, false, cond, _||_}
-use mathlib.Core.List.{List, [], _∷_}
+use mathlib.Core.Bool.{Bool, false, cond}
+use mathlib.Core.List.{List, [], _∷_, _++_}
 use mathlib.Core.Path.{_≡_}
 use Prim.Native.Nat.{ℕ, zero, suc, _≤_, _<_}
 use lib.ListN.{length, getD}
 use Rattle.hits.specs.declared.Hit.{Hit}
 use Rattle.hits.specs.Samples.{Sample}
-use Rattle.gnat_theory.specs.Tree.{Tree, Parts, Range, pivots}
-use Rattle.gnat_theory.specs.Searching.{Want, State, Sight, start, strikes, struck, measure-all, survey, searched}
+use Rattle.gnat_theory.specs.Tree.{Tree, Parts, pivots}
+use Rattle.gnat_theory.specs.Searching.{State, Sight, start, struck, measure-all, survey, searched}
 use Rattle.gnat_theory.specs.Shapes.{pivot-count}
 use Rattle.gnat_rows.specs.declared.Leaf.{Leaf as Leaf-record}
 use Rattle.gnat_rows.specs.declared.Branch.{Branch as Branch-record}
@@ -18,17 +18,13 @@ use Rattle.gnat_search.specs.declared.Aim.{Aim}
 use Rattle.gnat_search.specs.declared.Found.{Found}
 use Rattle.gnat_search.specs.Wants.{want, Kept, Steps}
 
--- the range of the pivot i to the child j
-abbrev pub range-to : Branch-record → ℕ → ℕ → Range
-range-to b j i = record { low = getD (getD (b .low) j []) i 0; high = getD (getD (b .high) j []) i 0 }
-
--- the children that were struck, and those that the pivot i strikes
-abbrev pub Struck-more : Branch-record → ℕ → Sight → List Bool → List Bool → Type 0
-Struck-more b i s before after = (j : ℕ) → j < b .count → getD after j false ≡ (getD before j false || strikes s (range-to b j i))
-
 -- which children the pivots seen strike
 abbrev pub Flags : Branch-record → List Bool → List Sight → Type 0
 Flags b flags ss = (j : ℕ) → j < b .count → getD flags j false ≡ struck ss (column b j)
+
+-- after i pivots, one more strikes
+abbrev pub Struck-more : Branch-record → ℕ → Sight → List Bool → List Bool → Type 0
+Struck-more b i s before after = (ss : List Sight) → length ss ≡ i → Flags b before ss → Flags b after (ss ++ (s ∷ []))
 
 -- the rows of n children from the j-th on, without the struck ones
 abbrev pub open-rows : List ℕ → List Bool → ℕ → ℕ → List ℕ
