@@ -4,3 +4,6 @@ pub mod Leaves
 pub mod Flagging
 pub mod Surveys
 pub mod Pushing
+pub mod Waiting
+pub mod Weighing
+pub mod Visiting

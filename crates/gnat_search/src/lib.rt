@@ -201,3 +201,35 @@ fn push_open(branch: &Branch, struck: &[bool; 8], pending: &mut [u16], mut top: 
     }
     top
 }
+
+// Searches the tree that the rows show from the root on. The rows taken last are visited first.
+pub fn search<E: Metric>(rows: &[Row<E>], root: &Node, q: &E, aim: Aim, list: &mut [Hit]) -> Found
+    requires { ⌜ Searchable (now rows) 1024 (now root) ⌝ }
+    ensures { λ r. ⌜ Searched (now (rows .entry)) dist (now (q .entry)) aim (now (root .entry)) (now (list .entry)) (now (list .exit)) r ⌝ }
+{
+    let mut pending = [0; PENDING];
+    let mut top = 0;
+    let mut so_far = Found {
+        found: 0,
+        held: 0,
+        measured: 0,
+    };
+    let mut node = *root;
+    loop {
+        match node {
+            Node::Leaf(leaf) => {
+                so_far = measure_leaf(rows, &leaf, q, aim, list, so_far);
+            }
+            Node::Branch(branch) => {
+                let view = survey(rows, &branch, q, aim, list, so_far);
+                so_far = view.so_far;
+                top = push_open(&branch, &view.struck, &mut pending, top);
+            }
+        }
+        if top == 0 {
+            return so_far;
+        }
+        top -= 1;
+        node = node_in(rows, pending[top] as usize);
+    }
+}
