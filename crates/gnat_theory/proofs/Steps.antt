@@ -11,14 +11,14 @@ use Rattle.std.specs.shelf.Lists.{All}
 use Rattle.std.proofs.shelf.Tests.{cond-both}
 use Rattle.std.proofs.shelf.Elements.{all-take}
 use Rattle.hits.specs.declared.Hit.{Hit}
-use Rattle.hits.specs.Order.{precedes, put}
+use Rattle.hits.specs.Order.{precedes, Sorted, put}
 use Rattle.hits.specs.Samples.{Sample}
 use Rattle.gnat_theory.specs.Tree.{Range}
 use Rattle.gnat_theory.specs.Choice.{removed}
 use Rattle.gnat_theory.specs.Filing.{widened, distances}
 use Rattle.gnat_theory.specs.Splitting.{least, gap}
 use Rattle.gnat_theory.specs.Searching.{Want, State, Sight, kth, nearest-hits, hits-within, strikes, struck, measure, measure-all}
-use Rattle.gnat_theory.proofs.Ordering.{Sorted, put-sorted}
+use Rattle.gnat_theory.proofs.Ordering.{put-sorted}
 
 or-none : (x : Bool) → (x || false) ≡ x
 or-none true = refl

@@ -12,11 +12,11 @@ use Rattle.std.specs.shelf.Lists.{All}
 use Rattle.std.proofs.shelf.Tests.{cond-both, leb-true, leb-false}
 use Rattle.std.proofs.shelf.Elements.{all-weaker}
 use Rattle.hits.specs.declared.Hit.{Hit}
-use Rattle.hits.specs.Order.{precedes, put, inside}
+use Rattle.hits.specs.Order.{precedes, Sorted, put, inside}
 use Rattle.hits.proofs.Precedence.{no-farther}
 use Rattle.hits.proofs.Keeping.{take-put, inside-put-far}
 use Rattle.gnat_theory.specs.Searching.{Want, kth, nearest-hits, hits-within}
-use Rattle.gnat_theory.proofs.Ordering.{Sorted, farther-behind, inside-put-sorted}
+use Rattle.gnat_theory.proofs.Ordering.{farther-behind, inside-put-sorted}
 
 -- A want keeps `result` of all the hits that it is given, and a hit beyond its reach would change nothing of that.
 pub record Keeps (w : Want) (result : List Hit → List Hit) : Type 0 where

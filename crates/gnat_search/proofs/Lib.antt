@@ -1,0 +1,9 @@
+pub mod Rows
+pub mod Keeping
+pub mod Leaves
+pub mod Flagging
+pub mod Surveys
+pub mod Pushing
+pub mod Waiting
+pub mod Weighing
+pub mod Visiting
