@@ -1,3 +1,5 @@
 pub mod Loops
 pub mod Leaving
 pub mod Level
+pub mod Choices
+pub mod Candidates

@@ -1,3 +1,4 @@
 pub mod Widening
 pub mod Filed
 pub mod Leaf
+pub mod Choosing
