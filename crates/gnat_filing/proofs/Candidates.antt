@@ -24,7 +24,7 @@ use Rattle.gnat_rows.specs.Shows.{sample-in, Holds-samples}
 use Rattle.gnat_rows.proofs.Changes.{same-row, nth-within}
 use Rattle.gnat_rows.proofs.Showing.{holds-append}
 use Rattle.gnat_filing.specs.declared.choosing.Candidate.{Candidate}
-use Rattle.gnat_filing.specs.Choosing.{top, blank, farther-one, rows-of, reach, Candidates, Renewed, Takes-next, Chosen}
+use Rattle.gnat_filing.specs.Choosing.{top, blank, farther-one, rows-of, reach, Candidates, Renewed, Candidate-of, Takes-next, Chosen}
 
 pub shuffle-map : {X Y : Type 0} (f : X → Y) (xs ys : List X) → Shuffle X xs ys → Shuffle Y (map f xs) (map f ys)
 shuffle-map f _ _ nothing = nothing
@@ -66,13 +66,23 @@ module _ {E : Type 0} (dist : E → E → ℕ) (small : (e f : E) → dist e f �
     cand-at (c ∷ cs) (x ∷ xs) zero d l h = h .0
     cand-at (c ∷ cs) (x ∷ xs) (suc k) d l h = cand-at cs xs k d (omega arith) (h .3)
 
+    pub cand-within : (cs : List Candidate) (xs : List (Sample E)) (k : ℕ) → k < length cs → Candidates dist rows ps cs xs → getD cs k blank .row < length rows
+    cand-within [] xs k l h = absurd (omega arith)
+    cand-within (c ∷ cs) [] k l h = absurd h
+    cand-within (c ∷ cs) (x ∷ xs) zero l h = nth-within rows (c .row) (h .0 .0) (h .0 .1)
+    cand-within (c ∷ cs) (x ∷ xs) (suc k) l h = cand-within cs xs k (omega arith) (h .3)
+
+    -- the same of the first m
+    pub first-within : (m : ℕ) (cs : List Candidate) (xs : List (Sample E)) (k : ℕ) → k < m → m ≤ length cs → Candidates dist rows ps (take m cs) xs → getD cs k blank .row < length rows
+    first-within m cs xs k l b h = subst (λ z. z .row < length rows) (getD-take m cs k blank l) (cand-within (take m cs) xs k (omega (arith, length-take-le m cs b)) h)
+
     pub cand-holds : (cs : List Candidate) (xs : List (Sample E)) → Candidates dist rows ps cs xs → Holds-samples rows (rows-of cs) xs
     cand-holds [] [] h = tt
     cand-holds [] (x ∷ xs) h = h
     cand-holds (c ∷ cs) [] h = h
     cand-holds (c ∷ cs) (x ∷ xs) h = (h .0 .0, h .0 .1, h .0 .2, cand-holds cs xs (h .3))
 
-    cand-removed : (j : ℕ) (cs : List Candidate) (xs : List (Sample E)) → Candidates dist rows ps cs xs → Candidates dist rows ps (removed j cs) (removed j xs)
+    pub cand-removed : (j : ℕ) (cs : List Candidate) (xs : List (Sample E)) → Candidates dist rows ps cs xs → Candidates dist rows ps (removed j cs) (removed j xs)
     cand-removed j [] [] h = tt
     cand-removed j [] (x ∷ xs) h = absurd h
     cand-removed j (c ∷ cs) [] h = absurd h
@@ -146,6 +156,19 @@ module _ {E : Type 0} (dist : E → E → ℕ) (small : (e f : E) → dist e f �
       let j = first-place (farther dist ps) (x ∷ xs) in
       ap (λ z. chosen dist n (ps ++ (z ∷ [])) (removed j (x ∷ xs))) (getD-default (x ∷ xs) j x d (first-below (farther dist ps) (x ∷ xs) (omega arith)))
 
+  pub chosen-none : (degree n : ℕ) (cs : List Candidate) (is : List ℕ) (xs : List (Sample E)) → Candidates dist rows [] (take n cs) xs → Chosen dist rows degree 0 n cs cs is xs
+  chosen-none degree n cs is xs h =
+      let back : n ≡ n - 0 = omega arith in
+      let all : degree - 0 ≡ degree = omega arith in
+      record
+        { pivots = []
+        ; rest = xs
+        ; holds = tt
+        ; others = subst (λ z. Candidates dist rows [] (take z cs) xs) back h
+        ; same-choice = ap (λ z. chosen dist z [] xs) all
+        ; same-rows = subst (λ z. Shuffle ℕ (rows-of (take z cs)) (rows-of (take n cs))) back (same-order (rows-of (take n cs)))
+        }
+
   -- one more pivot chosen
   pub chosen-more : (degree c n : ℕ) (cs cs₁ cs₂ : List Candidate) (is : List ℕ) (i : ℕ) (xs : List (Sample E)) → c < degree → degree ≤ n → n ≤ 33 → length cs₁ ≡ 33 → c < length is
       → Chosen dist rows degree c n cs cs₁ is xs → ((ps ys : List (Sample E)) (d : Sample E) → Candidates dist rows ps (take (n - c) cs₁) ys → Takes-next dist rows (n - c) cs₁ cs₂ i ps ys d)
@@ -175,3 +198,16 @@ module _ {E : Type 0} (dist : E → E → ℕ) (small : (e f : E) → dist e f �
                   (shuffle-behind (take c is) (i ∷ tail) (rows-of (take (n - c) cs₁)) (subst (λ z. Shuffle ℕ (i ∷ rows-of (take z cs₂)) (rows-of (take (n - c) cs₁))) fewer (t .same-rows)))))
                 (h .same-rows)
             }
+
+  -- rows put down as candidates, before any pivot is chosen
+  pub candidates-are : (is : List ℕ) (cs : List Candidate) (xs : List (Sample E)) → length cs ≡ length is → ((k : ℕ) → k < length is → Candidate-of rows (getD is k 0) (getD cs k blank)) → Holds-samples rows is xs → Candidates dist rows [] cs xs × (rows-of cs ≡ is)
+  candidates-are [] [] [] l f h = (tt, refl)
+  candidates-are [] [] (x ∷ xs) l f h = absurd h
+  candidates-are [] (c ∷ cs) xs l f h = absurd (omega arith)
+  candidates-are (i ∷ is) [] xs l f h = absurd (omega arith)
+  candidates-are (i ∷ is) (c ∷ cs) [] l f h = absurd h
+  candidates-are (i ∷ is) (c ∷ cs) (x ∷ xs) l f h =
+      let one = f 0 (omega arith) in
+      let ih = candidates-are is cs xs (omega arith) (λ k u. f (suc k) (omega arith)) (h .3) in
+      let same = same-row rows i (one .number .0) (h .0) (one .number .1) (h .1) in
+      (((h .0, ap (nth rows) (one .row) ∙ h .1, h .2), one .number .2 ∙ ap (λ z. z .number) same ∙ ap (λ z. z .number) (h .2), one .gap, ih .0), (λ k. one .row k ∷ ih .1 k))

@@ -2,7 +2,7 @@
 use mathlib.Core.Bool.{Bool, _&&_, _||_}
 use mathlib.Core.List.{List, [], _∷_, _++_, map}
 use mathlib.Core.Path.{_≡_}
-use Prim.Native.Nat.{ℕ, min, _-_}
+use Prim.Native.Nat.{ℕ, min, _+_, _-_}
 use lib.Dec.{eqb, ltb}
 use lib.ListN.{getD, take}
 use Rattle.hits.specs.Samples.{Sample}
@@ -10,9 +10,10 @@ use Rattle.gnat_theory.specs.Choice.{first-place, removed}
 use Rattle.gnat_theory.specs.Filing.{distances}
 use Rattle.gnat_theory.specs.Splitting.{least, farther, chosen}
 use Rattle.gnat_theory.specs.Shuffles.{Shuffle}
+use Rattle.gnat_rows.specs.declared.Leaf.{Leaf}
 use Rattle.gnat_rows.specs.declared.Row.{Row}
 use Rattle.gnat_rows.specs.Rows.{Has-row}
-use Rattle.gnat_rows.specs.Shows.{sample-in, Holds-samples}
+use Rattle.gnat_rows.specs.Shows.{sample-in, held, Holds-samples}
 use Rattle.gnat_filing.specs.declared.choosing.Candidate.{Candidate}
 
 -- where there is no pivot yet, a distance above all
@@ -32,6 +33,12 @@ rows-of cs = map (λ c. c .row) cs
 -- all but the one at j, in their order, of the first m
 abbrev pub without-one : ℕ → ℕ → List Candidate → List Candidate
 without-one j m cs = removed j (take m cs)
+
+-- the row i put down as a candidate, before any pivot is chosen
+pub record Candidate-of {E : Type 0} (rows : List (Row E)) (i : ℕ) (c : Candidate) : Type 0 where
+  pub row : c .row ≡ i
+  pub number : Has-row rows i (λ r. c .number ≡ r .number)
+  pub gap : c .gap ≡ top
 
 module _ {E : Type 0} (dist : E → E → ℕ) (rows : List (Row E)) where
   -- the distance of a sample to its nearest of the pivots ps
@@ -77,3 +84,7 @@ module _ {E : Type 0} (dist : E → E → ℕ) (rows : List (Row E)) where
 
   abbrev pub Chooses-first : ℕ → ℕ → ℕ → List Candidate → List Candidate → List ℕ → Type 0
   Chooses-first degree c n cs cs′ is = (xs : List (Sample E)) → Candidates [] (take n cs) xs → Chosen degree c n cs cs′ is xs
+
+  -- the rows of a leaf and the row `at`, put down as candidates
+  abbrev pub Lists-candidates : Leaf → ℕ → List Candidate → Type 0
+  Lists-candidates l at cs = (xs : List (Sample E)) → Holds-samples rows (held l ++ (at ∷ [])) xs → Candidates [] (take (l .count + 1) cs) xs × (rows-of (take (l .count + 1) cs) ≡ held l ++ (at ∷ []))

@@ -2,3 +2,4 @@ pub mod Widening
 pub mod Filed
 pub mod Leaf
 pub mod Choosing
+pub mod Filling

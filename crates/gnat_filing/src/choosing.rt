@@ -3,9 +3,11 @@ ghost use mathlib.Core.Path.{_≡_};
 ghost use Prim.Native.Nat.{ℕ, _-_, _<_, _≤_};
 ghost use lib.ListN.{length, getD, take};
 ghost use Rattle.gnat_theory.specs.Choice.{first-place};
-ghost use Rattle.gnat_filing.specs.Choosing.{farther-one, without-one, blank, Renewed, Some-candidates, Takes-its-next, First-candidates, Chooses-first};
+ghost use Rattle.gnat_filing.specs.Choosing.{farther-one, without-one, blank, Candidate-of, Lists-candidates, Renewed, Some-candidates, Takes-its-next, First-candidates, Chooses-first};
+use gnat_rows::Leaf;
 use gnat_rows::Row;
 use gnat_rows::element_in;
+use gnat_rows::number_in;
 use metric::Metric;
 
 // A row that may become a pivot: its sample's number, and the distance to its nearest pivot so far.
@@ -14,6 +16,31 @@ pub struct Candidate {
     pub row: u16,
     pub number: u16,
     pub gap: u32,
+}
+
+// A row before any pivot is chosen.
+fn candidate_of<E: Metric>(rows: &[Row<E>], row: u16) -> Candidate
+    requires { ⌜ row < length (now rows) ⌝ }
+    ensures { λ r. ⌜ Candidate-of (now (rows .entry)) row r ⌝ }
+{
+    Candidate {
+        row,
+        number: number_in(rows, row as usize),
+        gap: u32::MAX,
+    }
+}
+
+// The rows of a leaf and then the row `at`.
+pub fn candidates<E: Metric>(rows: &[Row<E>], l: &Leaf, at: u16) -> [Candidate; 33]
+    requires count { ⌜ now l .count ≤ 32 ⌝ }
+    requires within { ⌜ ((k : ℕ) → k < now l .count → getD (now l .rows) k 0 < length (now rows)) ⌝ ∗ ⌜ at < length (now rows) ⌝ }
+    ensures { λ r. ⌜ Lists-candidates dist (now (rows .entry)) (now (l .entry)) at r ⌝ }
+{
+    let mut cs = [candidate_of(rows, at); 33];
+    for i in 0..l.count as usize {
+        cs[i] = candidate_of(rows, l.rows[i]);
+    }
+    cs
 }
 
 // The next pivot is the farther one, of the smaller number if equal.

@@ -12,7 +12,7 @@ use gnat_rows::element_in;
 use metric::Metric;
 
 // The distances of a branch's pivots to an element, each measured once.
-fn measured<E: Metric>(rows: &[Row<E>], b: &Branch, e: &E) -> [u32; 8]
+pub fn measured<E: Metric>(rows: &[Row<E>], b: &Branch, e: &E) -> [u32; 8]
     requires { ⌜ Pivoted (now rows) (now b) ⌝ }
     ensures { λ r. ⌜ Measured dist (now (rows .entry)) (now (b .entry)) (now (e .entry)) r ⌝ }
 {

@@ -71,7 +71,7 @@ module _ {E : Type 0} (dist : E → E → ℕ) where
   bare-throughout F carries j ps [] = tt
   bare-throughout F carries j ps (s ∷ qs) = (carries .alone ps j s, tt, bare-throughout F carries (suc j) ps qs)
 
-  leaf-filed-leaves : (most : ℕ) (xs : List (Sample E)) (t : Tree E) → Leaves most t → Leaves (most + length xs) (filed-all dist leaf xs t)
+  pub leaf-filed-leaves : (most : ℕ) (xs : List (Sample E)) (t : Tree E) → Leaves most t → Leaves (most + length xs) (filed-all dist leaf xs t)
   leaf-filed-leaves most [] t l = subst (λ z. Leaves z t) (omega arith) l
   leaf-filed-leaves most (s ∷ xs) t l =
       subst (λ z. Leaves z (filed-all dist leaf xs (filed dist leaf s t))) (omega arith)
