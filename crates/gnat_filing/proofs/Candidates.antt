@@ -1,6 +1,7 @@
 -- What candidates stand for, and the next pivot among them. Assumes nothing.
 use mathlib.Core.Bool.{Bool, true, false, cond, _&&_, _||_}
 use mathlib.Core.List.{List, [], _∷_, _++_, map}
+use mathlib.Core.Logic.{⊎-elim}
 use mathlib.Core.Path.{_≡_, refl, sym, ap, subst, _∙_}
 use Prim.Native.Nat.{ℕ, zero, suc, _+_, _-_, _≤_, _<_, min}
 use native.Mathlib.Omega.{arith}
@@ -8,8 +9,8 @@ use lib.Dec.{eqb, ltb}
 use lib.ListN.{length, take, getD}
 use Rattle.std.specs.Finite.{nth}
 use Rattle.std.specs.declared.option.Option.the-variants.{Some}
-use Rattle.std.proofs.shelf.Lists.{getD-take, getD-default, length-take-le, take-more-set, take-set, append-assoc}
-use Rattle.std.proofs.shelf.Tests.{le-ltb, eq-eqb}
+use Rattle.std.proofs.shelf.Lists.{getD-take, getD-default, getD-append-left, getD-push, length-take-le, length-push, append-assoc}
+use Rattle.std.proofs.shelf.Tests.{le-ltb, eq-eqb, cases-lt}
 use Rattle.hits.specs.Samples.{Sample}
 use Rattle.gnat_theory.specs.Choice.{first-from, first-place, removed}
 use Rattle.gnat_theory.specs.Filing.{distances}
@@ -18,13 +19,14 @@ use Rattle.gnat_theory.specs.Shuffles.{Shuffle}
 use Rattle.gnat_theory.specs.Shuffles.Shuffle.{nothing, after, swapped, in-turn}
 use Rattle.gnat_theory.proofs.Firsts.{first-below, removed-shuffle}
 use Rattle.gnat_theory.proofs.Shuffling.{same-order, shuffle-behind}
+use Rattle.gnat_rows.specs.declared.Leaf.{Leaf}
 use Rattle.gnat_rows.specs.declared.Row.{Row}
 use Rattle.gnat_rows.specs.Rows.{Has-row}
-use Rattle.gnat_rows.specs.Shows.{sample-in, Holds-samples}
+use Rattle.gnat_rows.specs.Shows.{sample-in, held, Holds-samples}
 use Rattle.gnat_rows.proofs.Changes.{same-row, nth-within}
 use Rattle.gnat_rows.proofs.Showing.{holds-append}
 use Rattle.gnat_filing.specs.declared.choosing.Candidate.{Candidate}
-use Rattle.gnat_filing.specs.Choosing.{top, blank, farther-one, rows-of, reach, Candidates, Renewed, Candidate-of, Takes-next, Chosen}
+use Rattle.gnat_filing.specs.Choosing.{top, blank, farther-one, rows-of, reach, Candidates, Renewed, Candidate-of, Lists-candidates, Takes-next, Chosen}
 
 pub shuffle-map : {X Y : Type 0} (f : X → Y) (xs ys : List X) → Shuffle X xs ys → Shuffle Y (map f xs) (map f ys)
 shuffle-map f _ _ nothing = nothing
@@ -128,27 +130,27 @@ module _ {E : Type 0} (dist : E → E → ℕ) (small : (e f : E) → dist e f �
         let at-j : getD (take m cs) j blank ≡ getD cs j blank = getD-take m cs j blank below in
         let p = getD xs (first-place (farther dist ps) xs) d in
         let here : Has-row rows (getD cs j blank .row) (λ r. sample-in r ≡ p) =
-              subst (λ z. Has-row rows (getD cs j blank .row) (λ r. sample-in r ≡ getD xs z d)) place
-              (subst (λ z. Has-row rows (z .row) (λ r. sample-in r ≡ getD xs j d)) at-j (cand-at (take m cs) xs j d (omega arith) h)) in
+        subst (λ z. Has-row rows (getD cs j blank .row) (λ r. sample-in r ≡ getD xs z d)) place
+        (subst (λ z. Has-row rows (z .row) (λ r. sample-in r ≡ getD xs j d)) at-j (cand-at (take m cs) xs j d (omega arith) h)) in
         let same = same-row rows (getD cs j blank .row) (read .0) (here .0) (read .1) (here .1) in
         let element : e ≡ p .element = read .2 ∙ ap (λ z. z .element) same ∙ ap (λ z. z .element) (here .2) in
         let before : Candidates dist rows ps (take (m - 1) cs₁) (removed (first-place (farther dist ps) xs) xs) =
-              subst (λ z. Candidates dist rows ps z (removed (first-place (farther dist ps) xs) xs)) (sym taken) (subst (λ z. Candidates dist rows ps (removed j (take m cs)) (removed z xs)) place (cand-removed j (take m cs) xs h)) in
+        subst (λ z. Candidates dist rows ps z (removed (first-place (farther dist ps) xs) xs)) (sym taken) (subst (λ z. Candidates dist rows ps (removed j (take m cs)) (removed z xs)) place (cand-removed j (take m cs) xs h)) in
         let long₁ : length (take (m - 1) cs₁) ≡ m - 1 = length-take-le (m - 1) cs₁ (omega arith) in
         let long₂ : length (take (m - 1) cs₂) ≡ m - 1 = length-take-le (m - 1) cs₂ (omega arith) in
         let each : (k : ℕ) → k < length (take (m - 1) cs₁) → Renewed dist rows (p .element) (getD (take (m - 1) cs₁) k blank) (getD (take (m - 1) cs₂) k blank) =
-              λ k u.
-              let below : k < m - 1 = omega arith in
-              subst (λ z. Renewed dist rows (p .element) z (getD (take (m - 1) cs₂) k blank)) (sym (getD-take (m - 1) cs₁ k blank below))
-              (subst (λ z. Renewed dist rows (p .element) (getD cs₁ k blank) z) (sym (getD-take (m - 1) cs₂ k blank below))
-               (subst (λ z. Renewed dist rows z (getD cs₁ k blank) (getD cs₂ k blank)) element (renews k below))) in
+        λ k u.
+        let below : k < m - 1 = omega arith in
+        subst (λ z. Renewed dist rows (p .element) z (getD (take (m - 1) cs₂) k blank)) (sym (getD-take (m - 1) cs₁ k blank below))
+        (subst (λ z. Renewed dist rows (p .element) (getD cs₁ k blank) z) (sym (getD-take (m - 1) cs₂ k blank below))
+        (subst (λ z. Renewed dist rows z (getD cs₁ k blank) (getD cs₂ k blank)) element (renews k below))) in
         let more = cand-renewed p (take (m - 1) cs₁) (take (m - 1) cs₂) (removed (first-place (farther dist ps) xs) xs) (long₁ ∙ sym long₂) each before in
         let shuffled = shuffle-map (λ c. c .row) (getD (take m cs) j blank ∷ removed j (take m cs)) (take m cs) (removed-shuffle blank (take m cs) j (omega arith)) in
-        record
-          { pivot = here
-          ; others = more .0
-          ; same-rows = subst (λ z. Shuffle ℕ (getD cs j blank .row ∷ z) (rows-of (take m cs))) (sym (more .1 ∙ ap rows-of taken)) (subst (λ z. Shuffle ℕ (z .row ∷ rows-of (removed j (take m cs))) (rows-of (take m cs))) at-j shuffled)
-          }
+        record {
+          pivot = here;
+          others = more .0;
+          same-rows = subst (λ z. Shuffle ℕ (getD cs j blank .row ∷ z) (rows-of (take m cs))) (sym (more .1 ∙ ap rows-of taken)) (subst (λ z. Shuffle ℕ (z .row ∷ rows-of (removed j (take m cs))) (rows-of (take m cs))) at-j shuffled);
+        }
 
   chosen-step : (n : ℕ) (ps xs : List (Sample E)) (d : Sample E) → 1 ≤ length xs → chosen dist (suc n) ps xs ≡ chosen dist n (ps ++ (getD xs (first-place (farther dist ps) xs) d ∷ [])) (removed (first-place (farther dist ps) xs) xs)
   chosen-step n ps [] d l = absurd (omega arith)
@@ -160,14 +162,14 @@ module _ {E : Type 0} (dist : E → E → ℕ) (small : (e f : E) → dist e f �
   chosen-none degree n cs is xs h =
       let back : n ≡ n - 0 = omega arith in
       let all : degree - 0 ≡ degree = omega arith in
-      record
-        { pivots = []
-        ; rest = xs
-        ; holds = tt
-        ; others = subst (λ z. Candidates dist rows [] (take z cs) xs) back h
-        ; same-choice = ap (λ z. chosen dist z [] xs) all
-        ; same-rows = subst (λ z. Shuffle ℕ (rows-of (take z cs)) (rows-of (take n cs))) back (same-order (rows-of (take n cs)))
-        }
+      record {
+        pivots = [];
+        rest = xs;
+        holds = tt;
+        others = subst (λ z. Candidates dist rows [] (take z cs) xs) back h;
+        same-choice = ap (λ z. chosen dist z [] xs) all;
+        same-rows = subst (λ z. Shuffle ℕ (rows-of (take z cs)) (rows-of (take n cs))) back (same-order (rows-of (take n cs)));
+      }
 
   -- one more pivot chosen
   pub chosen-more : (degree c n : ℕ) (cs cs₁ cs₂ : List Candidate) (is : List ℕ) (i : ℕ) (xs : List (Sample E)) → c < degree → degree ≤ n → n ≤ 33 → length cs₁ ≡ 33 → c < length is
@@ -177,6 +179,7 @@ module _ {E : Type 0} (dist : E → E → ℕ) (small : (e f : E) → dist e f �
     where
       fewer : n - c - 1 ≡ n - (c + 1)
       fewer = omega arith
+
       go : (rest : List (Sample E)) → Candidates dist rows (h .pivots) (take (n - c) cs₁) rest → chosen dist (degree - c) (h .pivots) rest ≡ chosen dist degree [] xs → Chosen dist rows degree (c + 1) n cs cs₂ is′ xs
       go [] others same = absurd (omega (arith, cand-length (h .pivots) (take (n - c) cs₁) [] others, length-take-le (n - c) cs₁ (omega arith)))
       go (x ∷ rest) others same =
@@ -185,19 +188,19 @@ module _ {E : Type 0} (dist : E → E → ℕ) (small : (e f : E) → dist e f �
           let left = removed (first-place (farther dist (h .pivots)) (x ∷ rest)) (x ∷ rest) in
           let down : degree - c ≡ suc (degree - (c + 1)) = omega arith in
           let tail = rows-of (take (n - (c + 1)) cs₂) in
-          record
-            { pivots = h .pivots ++ (p ∷ [])
-            ; rest = left
-            ; holds = subst (λ z. Holds-samples rows z (h .pivots ++ (p ∷ []))) (sym e) (holds-append rows (take c is) (i ∷ []) (h .pivots) (p ∷ []) (h .holds) (t .pivot .0, t .pivot .1, t .pivot .2, tt))
-            ; others = subst (λ z. Candidates dist rows (h .pivots ++ (p ∷ [])) (take z cs₂) left) fewer (t .others)
-            ; same-choice = sym (chosen-step (degree - (c + 1)) (h .pivots) (x ∷ rest) x (omega arith)) ∙ ap (λ z. chosen dist z (h .pivots) (x ∷ rest)) (sym down) ∙ same
-            ; same-rows =
+          record {
+            pivots = h .pivots ++ (p ∷ []);
+            rest = left;
+            holds = subst (λ z. Holds-samples rows z (h .pivots ++ (p ∷ []))) (sym e) (holds-append rows (take c is) (i ∷ []) (h .pivots) (p ∷ []) (h .holds) (t .pivot .0, t .pivot .1, t .pivot .2, tt));
+            others = subst (λ z. Candidates dist rows (h .pivots ++ (p ∷ [])) (take z cs₂) left) fewer (t .others);
+            same-choice = sym (chosen-step (degree - (c + 1)) (h .pivots) (x ∷ rest) x (omega arith)) ∙ ap (λ z. chosen dist z (h .pivots) (x ∷ rest)) (sym down) ∙ same;
+            same-rows =
                 in-turn (take (c + 1) is′ ++ tail) (take c is ++ rows-of (take (n - c) cs₁)) (rows-of (take n cs))
                 (subst (λ z. Shuffle ℕ (z ++ tail) (take c is ++ rows-of (take (n - c) cs₁))) (sym e)
-                 (subst (λ z. Shuffle ℕ z (take c is ++ rows-of (take (n - c) cs₁))) (sym (append-assoc (take c is) (i ∷ []) tail))
-                  (shuffle-behind (take c is) (i ∷ tail) (rows-of (take (n - c) cs₁)) (subst (λ z. Shuffle ℕ (i ∷ rows-of (take z cs₂)) (rows-of (take (n - c) cs₁))) fewer (t .same-rows)))))
-                (h .same-rows)
-            }
+                (subst (λ z. Shuffle ℕ z (take c is ++ rows-of (take (n - c) cs₁))) (sym (append-assoc (take c is) (i ∷ []) tail))
+                (shuffle-behind (take c is) (i ∷ tail) (rows-of (take (n - c) cs₁)) (subst (λ z. Shuffle ℕ (i ∷ rows-of (take z cs₂)) (rows-of (take (n - c) cs₁))) fewer (t .same-rows)))))
+                (h .same-rows);
+          }
 
   -- rows put down as candidates, before any pivot is chosen
   pub candidates-are : (is : List ℕ) (cs : List Candidate) (xs : List (Sample E)) → length cs ≡ length is → ((k : ℕ) → k < length is → Candidate-of rows (getD is k 0) (getD cs k blank)) → Holds-samples rows is xs → Candidates dist rows [] cs xs × (rows-of cs ≡ is)
@@ -211,3 +214,18 @@ module _ {E : Type 0} (dist : E → E → ℕ) (small : (e f : E) → dist e f �
       let ih = candidates-are is cs xs (omega arith) (λ k u. f (suc k) (omega arith)) (h .3) in
       let same = same-row rows i (one .number .0) (h .0) (one .number .1) (h .1) in
       (((h .0, ap (nth rows) (one .row) ∙ h .1, h .2), one .number .2 ∙ ap (λ z. z .number) same ∙ ap (λ z. z .number) (h .2), one .gap, ih .0), (λ k. one .row k ∷ ih .1 k))
+
+  -- a leaf's rows and one more put down as candidates
+  pub leaf-candidates : (l : Leaf) (at : ℕ) (cs : List Candidate) → l .count ≤ 32 → length (l .rows) ≡ 32 → length cs ≡ 33 → ((k : ℕ) → k < l .count → Candidate-of rows (getD (l .rows) k 0) (getD cs k blank)) → Candidate-of rows at (getD cs (l .count) blank) → Lists-candidates dist rows l at cs
+  leaf-candidates l at cs most l32 c33 each last xs h =
+      let n = l .count + 1 in
+      let is = held l ++ (at ∷ []) in
+      let size : length (held l) ≡ l .count = length-take-le (l .count) (l .rows) (omega arith) in
+      let size′ : length is ≡ n = length-push (held l) at ∙ ap (λ z. z + 1) size in
+      let long : length (take n cs) ≡ n = length-take-le n cs (omega arith) in
+      candidates-are is (take n cs) xs (long ∙ sym size′)
+      (λ k u. let below : k < n = omega arith in subst (Candidate-of rows (getD is k 0)) (sym (getD-take n cs k blank below))
+      (⊎-elim
+      (λ v. subst (λ z. Candidate-of rows z (getD cs k blank)) (sym (getD-append-left (held l) (at ∷ []) 0 k (omega arith) ∙ getD-take (l .count) (l .rows) k 0 v)) (each k v))
+      (λ v. let e : l .count ≡ k = omega arith in subst (λ z. Candidate-of rows (getD is z 0) (getD cs z blank)) e (subst (λ z. Candidate-of rows z (getD cs (l .count) blank)) (sym (getD-push (held l) at 0 (l .count) size)) last))
+      (cases-lt k (l .count)))) h

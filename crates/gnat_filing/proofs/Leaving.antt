@@ -34,17 +34,20 @@ module _ {E : Type 0} (most : ℕ) (rows : List (Row E)) (l : Leaf-record) (at :
   pub one-more : most ≤ 32 → length xs ≡ l .count + 1
   one-more m = sym (holds-length rows (held l ++ (at ∷ [])) xs (r .holds)) ∙ length-push (held l) at ∙ ap (λ z. z + 1) (length-take-le (l .count) (l .rows) (omega (arith, r .count, r .thirty-two)))
 
+  pub leaf-longer : (l′ : Leaf-record) → l .count < 32 → Pushed l l′ at → Leaves-tree rows rows (node.Leaf l′) (leaf xs) (at ∷ held l)
+  leaf-longer l′ u p =
+      record {
+        lies = held l ++ (at ∷ []);
+        shows = (l′, refl, p .thirty-two, omega (arith, p .count), p .rows, r .holds);
+        same-rows = end-to-front (held l) at;
+        only = only-none rows (at ∷ held l);
+      }
+
   module _ (dist : E → E → ℕ) (degree : ℕ) where
     pub leaf-kept : (l′ : Leaf-record) → most ≤ 32 → l .count < most → Pushed l l′ at → Leaves-tree rows rows (node.Leaf l′) (kept-or-split dist degree most xs) (at ∷ held l)
     leaf-kept l′ m u p =
         let kept = cond-true (leb (length xs) most) (leaf xs) (split dist degree xs) (le-leb (length xs) most (omega (arith, one-more m))) in
-        subst (λ z. Leaves-tree rows rows (node.Leaf l′) z (at ∷ held l)) (sym kept)
-        (record {
-          lies = held l ++ (at ∷ []);
-          shows = (l′, refl, p .thirty-two, omega (arith, p .count), p .rows, r .holds);
-          same-rows = end-to-front (held l) at;
-          only = only-none rows (at ∷ held l);
-        })
+        subst (λ z. Leaves-tree rows rows (node.Leaf l′) z (at ∷ held l)) (sym kept) (leaf-longer l′ (omega arith) p)
 
     pub leaf-split : (rows′ : List (Row E)) (n : Node) → most ≤ 32 → most ≤ l .count → Leaves-tree rows rows′ n (split dist degree xs) (at ∷ held l) → Leaves-tree rows rows′ n (kept-or-split dist degree most xs) (at ∷ held l)
     leaf-split rows′ n m u s =

@@ -13,7 +13,6 @@ use Rattle.gnat_theory.specs.Tree.{Tree, Parts, Range, pivots}
 use Rattle.gnat_theory.specs.Tree.Tree.{branch}
 use Rattle.gnat_theory.specs.Tree.Parts.{none, part}
 use Rattle.gnat_theory.specs.Filing.{nearest, widened, distances, filed, filed-under}
-use Rattle.gnat_theory.specs.Splitting.{kept-or-split, grown}
 use Rattle.gnat_theory.specs.Shapes.{Branching, Branching-parts, Leaves, Leaves-parts}
 use Rattle.gnat_theory.specs.Shuffles.{Shuffle}
 use Rattle.gnat_theory.proofs.Shuffling.{all-shuffle, shuffle-back}
@@ -168,11 +167,10 @@ module _ {E : Type 0} (degree bucket left : ℕ) (rows : List (Row E)) (n : Node
         }
 
     -- at a branch the sample goes below the nearest pivot
-    pub filed-below : (dist : E → E → ℕ) (rows₁ rows₂ : List (Row E)) (b′ : Branch-record) (j : ℕ) (kid : Node) (s : Sample E) (c : Child rows b 0 j j (i .parts) fs) → Approaches dist rows (s .element) b b′ j
-        → Leaves-tree rows rows₁ kid (grown dist degree bucket s (c .tree)) (at ∷ c .below) → rows₂ ≡ with-node (getD (b .pivots) j 0) kid rows₁
-        → Leaves-tree rows rows₂ (node.Branch b′) (grown dist degree bucket s t) (at ∷ fs)
-    filed-below dist rows₁ rows₂ b′ j kid s c near below put =
-        let became = kept-or-split dist degree bucket in
+    pub filed-below : (dist : E → E → ℕ) (became : List (Sample E) → Tree E) (rows₁ rows₂ : List (Row E)) (b′ : Branch-record) (j : ℕ) (kid : Node) (s : Sample E) (c : Child rows b 0 j j (i .parts) fs) → Approaches dist rows (s .element) b b′ j
+        → Leaves-tree rows rows₁ kid (filed dist became s (c .tree)) (at ∷ c .below) → rows₂ ≡ with-node (getD (b .pivots) j 0) kid rows₁
+        → Leaves-tree rows rows₂ (node.Branch b′) (filed dist became s t) (at ∷ fs)
+    filed-below dist became rows₁ rows₂ b′ j kid s c near below put =
         let ps = i .parts in
         let measured = distances-are rows b at ps fs (i .ready) dist s (near .distances) (near .measured) in
         let ds = distances dist (pivots ps) s in
@@ -180,6 +178,6 @@ module _ {E : Type 0} (degree bucket left : ℕ) (rows : List (Row E)) (n : Node
         let g = filed dist became s in
         let here : nearest ds ≡ j = ap nearest (sym measured) ∙ near .near in
         let mends : Mends b b′ j f = record { pivots = near .widens .pivots; here = near .widens .wide ∙ ap (λ z. widened (column b j) z) measured; others = near .widens .others } in
-        let same : grown dist degree bucket s t ≡ branch (replaced f g j ps) = ap (grown dist degree bucket s) (i .tree) ∙ ap (λ z. branch (filed-under dist became s ds z ps)) here ∙ ap branch (filed-is dist became s ds j ps) in
+        let same : filed dist became s t ≡ branch (replaced f g j ps) = ap (filed dist became s) (i .tree) ∙ ap (λ z. branch (filed-under dist became s ds z ps)) here ∙ ap branch (filed-is dist became s ds j ps) in
         subst (λ z. Leaves-tree rows rows₂ (node.Branch b′) z (at ∷ fs)) (sym same)
         (level rows b at ps fs (i .ready) j c rows₁ rows₂ kid (g (c .tree)) below put b′ f g (near .widens .count) mends refl (replaced-length f g j ps))

@@ -46,7 +46,7 @@ module _ {E : Type 0} where
     pub shows : Shows rows (node.Branch b) t fs
     pub holds : Holds-samples rows is xs
     pub apart : Distinct (is ++ fs)
-    pub few : length is ≤ 31
+    pub few : length is ≤ 32
     pub branching : Branching degree t
     pub leaves : Leaves 0 t
     pub flat : depth t < 2
@@ -59,7 +59,7 @@ module _ {E : Type 0} (dist : E → E → ℕ) where
   abbrev pub Pointed : List (Row E) → List ℕ → Branch → ℕ → Type 0
   Pointed rows is b j =
       Has-row rows (getD is j 0) (λ row.
-        (ds : List ℕ) × ((k : ℕ) → k < b .count → Has-row rows (getD is k 0) (λ q. getD ds k 0 ≡ dist (q .element) (row .element))) × (length ds ≡ 8) × (column b j ≡ ranges (b .count) ds ds))
+      (ds : List ℕ) × ((k : ℕ) → k < b .count → Has-row rows (getD is k 0) (λ q. getD ds k 0 ≡ dist (q .element) (row .element))) × (length ds ≡ 8) × (column b j ≡ ranges (b .count) ds ds))
 
   pub record Bare (rows : List (Row E)) (is : List ℕ) (degree : ℕ) (b : Branch) : Type 0 where
     pub count : b .count ≡ degree

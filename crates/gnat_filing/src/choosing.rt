@@ -112,7 +112,12 @@ fn next_pivot<E: Metric>(rows: &[Row<E>], cs: &mut [Candidate; 33], m: usize) ->
 }
 
 // Chooses the rows of the pivots out of n candidates; the others stay, in their order.
-pub fn choose<E: Metric>(rows: &[Row<E>], cs: &mut [Candidate; 33], n: usize, degree: usize) -> [u16; 8]
+pub fn choose<E: Metric>(
+    rows: &[Row<E>],
+    cs: &mut [Candidate; 33],
+    n: usize,
+    degree: usize,
+) -> [u16; 8]
     requires count { ⌜ degree ≤ 8 ⌝ ∗ ⌜ degree ≤ n ⌝ ∗ ⌜ n ≤ 33 ⌝ }
     requires candidates { ⌜ First-candidates dist (now rows) n (now cs) ⌝ }
     ensures eight { λ r. ⌜ length r ≡ 8 ⌝ }

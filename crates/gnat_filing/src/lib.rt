@@ -1,5 +1,5 @@
 // Filing, splitting and dropping in a GNAT that lies in lent rows.
-pub mod filing;
 pub mod choosing;
+pub mod filing;
 pub mod splitting;
 pub mod widening;

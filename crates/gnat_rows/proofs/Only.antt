@@ -7,10 +7,11 @@ use Prim.Native.Nat.{ℕ}
 use Rattle.std.specs.Finite.{nth}
 use Rattle.std.specs.declared.option.Option.the-variants.{Some}
 use Rattle.std.proofs.shelf.Tests.{cases-eq}
+use Rattle.hits.specs.Samples.{Sample}
 use Rattle.gnat_rows.specs.declared.Node.{Node}
 use Rattle.gnat_rows.specs.declared.Row.{Row}
 use Rattle.gnat_rows.specs.Rows.{changed, Has-row, with-node, with-marked}
-use Rattle.gnat_rows.specs.Shows.{sample-in}
+use Rattle.gnat_rows.specs.Shows.{sample-in, Holds-samples}
 use Rattle.gnat_rows.specs.Lying.{Absent, Only-in}
 use Rattle.gnat_rows.proofs.Changes.{nth-changed, nth-unchanged}
 
@@ -47,3 +48,10 @@ module _ {E : Type 0} where
 
   pub only-marked : (rows : List (Row E)) (i : ℕ) (m : Bool) → Only-in (i ∷ []) rows (with-marked i m rows)
   only-marked rows i m = only-changed rows i (λ r. record { element = r .element; number = r .number; marked = m; place = r .place; node = r .node }) (λ r. (refl, refl))
+
+  -- rows hold the samples that they held
+  pub holds-kept : (rows rows′ : List (Row E)) (fs is : List ℕ) (xs : List (Sample E)) → Only-in fs rows rows′ → Holds-samples rows is xs → Holds-samples rows′ is xs
+  holds-kept rows rows′ fs [] [] o h = tt
+  holds-kept rows rows′ fs [] (x ∷ xs) o h = h
+  holds-kept rows rows′ fs (i ∷ is) [] o h = h
+  holds-kept rows rows′ fs (i ∷ is) (x ∷ xs) o h = let v = o .samples i (h .0) (h .1) in (v .0, v .1, v .2 .0 ∙ h .2, holds-kept rows rows′ fs is xs o (h .3))

@@ -59,11 +59,11 @@ module _ {E : Type 0} (dist : E → E → ℕ) where
   bare-pivots ps [] = refl
   bare-pivots ps (s ∷ qs) = ap (λ z. s ∷ z) (bare-pivots ps qs)
 
-  bare-branching : (degree : ℕ) (ps qs : List (Sample E)) → Branching-parts degree (bare dist ps qs)
+  pub bare-branching : (degree : ℕ) (ps qs : List (Sample E)) → Branching-parts degree (bare dist ps qs)
   bare-branching degree ps [] = tt
   bare-branching degree ps (s ∷ qs) = (tt, bare-branching degree ps qs)
 
-  bare-leaves : (ps qs : List (Sample E)) → Leaves-parts 0 (bare dist ps qs)
+  pub bare-leaves : (ps qs : List (Sample E)) → Leaves-parts 0 (bare dist ps qs)
   bare-leaves ps [] = tt
   bare-leaves ps (s ∷ qs) = (omega arith, bare-leaves ps qs)
 

@@ -18,7 +18,9 @@ loop-c-again g c =
     let k = c .loop-c .c in
     let pivots = c .loop-c .pivots in
     let i = c .next-pivot .result in
-    let lt : k < length pivots = omega (arith, c .loop-c .inv .0, c .pre .count .0) in
-    (length-set pivots k i ∙ c .loop-c .inv .0, c .next-pivot .array-long,
-     λ xs h. chosen-more (g .E·Metric .dist) (λ e f. omega (arith, laws .bounded e f, laws .small)) (c .args .rows .now) (c .args .degree) k (c .args .n) (c .args .cs .now) (c .loop-c .cs) (c .next-pivot .last .cs) pivots i xs
-       (c .loop-c-test .taken) (c .pre .count .1 .0) (c .pre .count .1 .1) (c .loop-c .inv .1) lt (c .loop-c .inv .2 xs h) (c .next-pivot .ensures) _ (take-more-set pivots k i lt))
+    let lt : k < length pivots = omega (arith, c .loop-c .inv .0, c .pre .count .0) in (
+      length-set pivots k i ∙ c .loop-c .inv .0,
+      c .next-pivot .array-long,
+      λ xs h. chosen-more (g .E·Metric .dist) (λ e f. omega (arith, laws .bounded e f, laws .small)) (c .args .rows .now) (c .args .degree) k (c .args .n) (c .args .cs .now) (c .loop-c .cs) (c .next-pivot .last .cs) pivots i xs
+          (c .loop-c-test .taken) (c .pre .count .1 .0) (c .pre .count .1 .1) (c .loop-c .inv .1) lt (c .loop-c .inv .2 xs h) (c .next-pivot .ensures) _ (take-more-set pivots k i lt),
+    )

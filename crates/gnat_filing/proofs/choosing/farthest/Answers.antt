@@ -35,6 +35,7 @@ loop-i-again c =
     let at-i = getD-take m cs i blank (omega arith) in
     let at-j = getD-take m cs j blank (omega (arith, c .loop-i .inv .0)) in
     let test : farther-one (getD (take m cs) i blank) (getD (take m cs) j blank) ≡ c .is-farther .result = (λ k. farther-one (at-i k) (at-j k)) ∙ sym (c .is-farther .ensures) in
-    elim (c .if-is-farther .came)
-    [ then-is-farther w ↦ (omega (arith, w .j-is), c .loop-i .inv .1 ∙ first-then farther-one (take m cs) blank j i lt (test ∙ w .if-is-farther .taken) ∙ ap (λ z. so-far farther-one (take m cs) blank z (i + 1)) (sym (w .j-is)))
-    | else-is-farther w ↦ (omega (arith, w .j-is, c .loop-i .inv .0), c .loop-i .inv .1 ∙ first-else farther-one (take m cs) blank j i lt (test ∙ w .if-is-farther .left) ∙ ap (λ z. so-far farther-one (take m cs) blank z (i + 1)) (sym (w .j-is))) ]
+    elim (c .if-is-farther .came) [
+      | then-is-farther w ↦ (omega (arith, w .j-is), c .loop-i .inv .1 ∙ first-then farther-one (take m cs) blank j i lt (test ∙ w .if-is-farther .taken) ∙ ap (λ z. so-far farther-one (take m cs) blank z (i + 1)) (sym (w .j-is)))
+      | else-is-farther w ↦ (omega (arith, w .j-is, c .loop-i .inv .0), c .loop-i .inv .1 ∙ first-else farther-one (take m cs) blank j i lt (test ∙ w .if-is-farther .left) ∙ ap (λ z. so-far farther-one (take m cs) blank z (i + 1)) (sym (w .j-is)))
+    ]

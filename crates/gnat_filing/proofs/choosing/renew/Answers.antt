@@ -18,9 +18,10 @@ loop-i-again g c =
     let v = c .renewed .result in
     let R = Renewed (g .E·Metric .dist) (c .args .rows .now) (c .args .pivot .now) in
     let lt : i < length cs = omega (arith, c .loop-i .inv .0, c .pre .0) in
-    let old = c .args .cs .now in
-    (length-set cs i v ∙ c .loop-i .inv .0,
-     below-more _ _
-     (λ k h. let ne : k ≢ i = omega arith in subst (R (getD old k blank)) (sym (getD-set-other cs i k v blank ne)) (c .loop-i .inv .1 k h))
-     (subst (R (getD old i blank)) (sym (getD-set-same cs i v blank lt)) (subst (λ z. R z v) (c .loop-i .inv .2 i (omega arith)) (c .renewed .ensures))),
-     (λ k h. let ne : k ≢ i = omega arith in getD-set-other cs i k v blank ne ∙ c .loop-i .inv .2 k (omega arith)))
+    let old = c .args .cs .now in (
+      length-set cs i v ∙ c .loop-i .inv .0,
+      below-more _ _
+          (λ k h. let ne : k ≢ i = omega arith in subst (R (getD old k blank)) (sym (getD-set-other cs i k v blank ne)) (c .loop-i .inv .1 k h))
+          (subst (R (getD old i blank)) (sym (getD-set-same cs i v blank lt)) (subst (λ z. R z v) (c .loop-i .inv .2 i (omega arith)) (c .renewed .ensures))),
+      (λ k h. let ne : k ≢ i = omega arith in getD-set-other cs i k v blank ne ∙ c .loop-i .inv .2 k (omega arith)),
+    )

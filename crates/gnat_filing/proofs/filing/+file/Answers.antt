@@ -101,5 +101,5 @@ returns-in-Branch g m c t fs row r there =
     let ready′ = subst (λ z. Ready degree bucket (left - 1) rows z at (kid .tree) (kid .below)) (ap (λ z. z .node) same ∙ sym (read .2)) ready in
     let element = own .2 ∙ ap (λ z. z .element) (same-row rows at (own .0) row (own .1) there) in
     let near = subst (λ z. Approaches dist rows z branch (c .approach-j .last .b) j) element (c .approach-j .ensures) in
-    filed-below degree bucket left rows (c .args .node) at t fs branch b dist (c .file-grown .last .rows) (c .put-node .last .rows) (c .approach-j .last .b) j (c .file-grown .result) (sample-in row) kid near
+    filed-below degree bucket left rows (c .args .node) at t fs branch b dist (kept-or-split dist degree bucket) (c .file-grown .last .rows) (c .put-node .last .rows) (c .approach-j .last .b) j (c .file-grown .result) (sample-in row) kid near
     (c .file-grown .ensures (kid .tree) (kid .below) row ready′ there) (c .put-node .ensures)
