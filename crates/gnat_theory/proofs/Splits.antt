@@ -59,11 +59,11 @@ module _ {E : Type 0} (dist : E → E → ℕ) where
   bare-pivots ps [] = refl
   bare-pivots ps (s ∷ qs) = ap (λ z. s ∷ z) (bare-pivots ps qs)
 
-  bare-branching : (degree : ℕ) (ps qs : List (Sample E)) → Branching-parts degree (bare dist ps qs)
+  pub bare-branching : (degree : ℕ) (ps qs : List (Sample E)) → Branching-parts degree (bare dist ps qs)
   bare-branching degree ps [] = tt
   bare-branching degree ps (s ∷ qs) = (tt, bare-branching degree ps qs)
 
-  bare-leaves : (ps qs : List (Sample E)) → Leaves-parts 0 (bare dist ps qs)
+  pub bare-leaves : (ps qs : List (Sample E)) → Leaves-parts 0 (bare dist ps qs)
   bare-leaves ps [] = tt
   bare-leaves ps (s ∷ qs) = (omega arith, bare-leaves ps qs)
 
@@ -71,7 +71,7 @@ module _ {E : Type 0} (dist : E → E → ℕ) where
   bare-throughout F carries j ps [] = tt
   bare-throughout F carries j ps (s ∷ qs) = (carries .alone ps j s, tt, bare-throughout F carries (suc j) ps qs)
 
-  leaf-filed-leaves : (most : ℕ) (xs : List (Sample E)) (t : Tree E) → Leaves most t → Leaves (most + length xs) (filed-all dist leaf xs t)
+  pub leaf-filed-leaves : (most : ℕ) (xs : List (Sample E)) (t : Tree E) → Leaves most t → Leaves (most + length xs) (filed-all dist leaf xs t)
   leaf-filed-leaves most [] t l = subst (λ z. Leaves z t) (omega arith) l
   leaf-filed-leaves most (s ∷ xs) t l =
       subst (λ z. Leaves z (filed-all dist leaf xs (filed dist leaf s t))) (omega arith)
