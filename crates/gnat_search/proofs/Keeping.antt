@@ -1,6 +1,6 @@
 -- The caller's list, hit by hit. Assumes nothing.
-use mathlib.Core.Bool.{Bool, true, false, cond}
-use mathlib.Core.List.{List, [], _∷_, _++_}
+use mathlib.Core.Bool.{true, false, cond}
+use mathlib.Core.List.{List}
 use mathlib.Core.Path.{_≡_, refl, sym, ap, subst, _∙_}
 use Prim.Native.Nat.{ℕ, zero, suc, _+_, _-_, _≤_, _<_, min}
 use native.Mathlib.Omega.{arith}
@@ -8,7 +8,6 @@ use lib.Dec.{leb}
 use lib.ListN.{length, take, drop, getD, length-append, length-take, length-drop}
 use Rattle.std.proofs.shelf.Lists.{take-take, getD-append-left, getD-take}
 use Rattle.std.proofs.shelf.Tests.{le-leb, lt-leb}
-use Rattle.std.specs.declared.option.Option.{Option}
 use Rattle.std.specs.declared.option.Option.the-variants.{None, Some}
 use Rattle.hits.specs.declared.Hit.{Hit}
 use Rattle.hits.specs.Order.{Sorted, put}

@@ -1,22 +1,18 @@
 -- The samples of a leaf, one by one. Assumes nothing.
 use mathlib.Core.List.{List, [], _∷_, _++_}
-use mathlib.Core.Path.{_≡_, refl, sym, ap, subst, _∙_}
+use mathlib.Core.Path.{_≡_, refl, sym, ap, _∙_}
 use Prim.Native.Nat.{ℕ, zero, suc, _+_, _≤_, _<_}
 use native.Mathlib.Omega.{arith}
 use lib.ListN.{length, take, getD, length-take}
 use Rattle.std.specs.Finite.{nth}
 use Rattle.std.specs.declared.option.Option.the-variants.{Some}
 use Rattle.std.proofs.shelf.Lists.{take-more, take-all, getD-take}
-use Rattle.hits.specs.declared.Hit.{Hit}
 use Rattle.hits.specs.Samples.{Sample}
 use Rattle.gnat_theory.specs.Searching.{Want, State, measure, measure-all}
 use Rattle.gnat_theory.proofs.Steps.{measure-push}
 use Rattle.gnat_rows.specs.declared.Leaf.{Leaf}
 use Rattle.gnat_rows.specs.declared.Row.{Row}
 use Rattle.gnat_rows.specs.Shows.{Holds-samples, sample-in, held}
-use Rattle.gnat_search.specs.declared.Aim.{Aim}
-use Rattle.gnat_search.specs.declared.Found.{Found}
-use Rattle.gnat_search.specs.Wants.{want, Kept, Steps}
 use Rattle.gnat_search.proofs.Rows.{same-row}
 
 module _ {E : Type 0} (rows : List (Row E)) where

@@ -7,3 +7,4 @@ pub mod Pushing
 pub mod Waiting
 pub mod Weighing
 pub mod Visiting
+pub mod Answering

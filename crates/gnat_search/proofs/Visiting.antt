@@ -2,9 +2,9 @@
 use mathlib.Core.Bool.{Bool}
 use mathlib.Core.List.{List, [], _∷_, _++_}
 use mathlib.Core.Path.{_≡_, refl, sym, ap, subst, _∙_}
-use Prim.Native.Nat.{ℕ, zero, suc, _+_, _-_, _*_, _≤_, _<_, min}
+use Prim.Native.Nat.{ℕ, zero, suc, _+_, _-_, _*_, _≤_, _<_}
 use native.Mathlib.Omega.{arith}
-use lib.ListN.{length, take, getD, length-take}
+use lib.ListN.{length, take, getD}
 use Rattle.std.specs.Finite.{nth}
 use Rattle.std.specs.declared.option.Option.the-variants.{Some}
 use Rattle.std.proofs.shelf.Lists.{append-nil, take-more}
@@ -12,9 +12,8 @@ use Rattle.hits.specs.declared.Hit.{Hit}
 use Rattle.hits.specs.Samples.{Sample}
 use Rattle.hits.specs.Lists.{over}
 use Rattle.gnat_theory.specs.Tree.{Tree, Parts, pivots}
-use Rattle.gnat_theory.specs.Tree.Tree.{leaf, branch}
 use Rattle.gnat_theory.specs.Tree.Parts.{none, part}
-use Rattle.gnat_theory.specs.Searching.{Want, State, Sight, start, measure-all, survey, searched}
+use Rattle.gnat_theory.specs.Searching.{Want, State, start, measure-all, survey, searched}
 use Rattle.gnat_theory.specs.Pending.{unstruck, turn, searched-all}
 use Rattle.gnat_theory.specs.Shapes.{pivot-count, part-count, weight}
 use Rattle.gnat_theory.proofs.Turns.{weight-append, length-weight, turn-step, turn-falls}
@@ -24,9 +23,8 @@ use Rattle.gnat_rows.specs.declared.Node.{Node}
 use Rattle.gnat_rows.specs.declared.Node.the-variants as node
 use Rattle.gnat_rows.specs.declared.Row.{Row}
 use Rattle.gnat_rows.specs.Shows.{Holds-samples, Shows, Shows-parts, held}
-use Rattle.gnat_search.specs.declared.Aim.{Aim}
 use Rattle.gnat_search.specs.declared.Found.{Found}
-use Rattle.gnat_search.specs.Wants.{want, Room, Counted, Kept}
+use Rattle.gnat_search.specs.Wants.{Room, Counted, Kept}
 use Rattle.gnat_search.specs.Nodes.{Flags, open-rows, Leaf-shown, Branch-shown, Searchable}
 use Rattle.gnat_search.proofs.Rows.{same-row}
 use Rattle.gnat_search.proofs.Waiting.{Waiting, Last, waiting-length, waiting-append, waiting-last, waiting-open, shown-leaf, shown-branch, shows-same}
@@ -219,3 +217,6 @@ pub take-last : (xs : List ℕ) (n : ℕ) → (n ≡ 0 → ⊥) → n ≤ length
 take-last xs n some l =
     let back : n - 1 + 1 ≡ n = omega arith in
     ap (λ m. take m xs) (sym back) ∙ take-more xs (n - 1) 0 (omega arith)
+
+pub take-none : (xs : List ℕ) (n : ℕ) → n ≡ 0 → take n xs ≡ []
+take-none xs n e = ap (λ m. take m xs) e

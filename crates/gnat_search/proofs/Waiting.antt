@@ -2,13 +2,13 @@
 use mathlib.Core.Bool.{Bool, true, false, cond}
 use mathlib.Core.List.{List, [], _∷_, _++_}
 use mathlib.Core.Path.{_≡_, refl, sym, ap, subst, _∙_}
-use Prim.Native.Nat.{ℕ, zero, suc, _+_, _≤_, _<_}
+use Prim.Native.Nat.{ℕ, suc, _+_, _≤_}
 use native.Mathlib.Omega.{arith}
 use lib.ListN.{length, getD}
 use Rattle.std.specs.Finite.{nth}
 use Rattle.std.specs.declared.option.Option.the-variants.{Some}
 use Rattle.hits.specs.Samples.{Sample}
-use Rattle.gnat_theory.specs.Tree.{Tree, Parts, Pivot, Range, pivots}
+use Rattle.gnat_theory.specs.Tree.{Tree, Parts, pivots}
 use Rattle.gnat_theory.specs.Tree.Tree.{leaf, branch}
 use Rattle.gnat_theory.specs.Tree.Parts.{none, part}
 use Rattle.gnat_theory.specs.Searching.{Sight, struck}
@@ -18,7 +18,7 @@ use Rattle.gnat_rows.specs.declared.Branch.{Branch}
 use Rattle.gnat_rows.specs.declared.Node.{Node}
 use Rattle.gnat_rows.specs.declared.Node.the-variants as node
 use Rattle.gnat_rows.specs.declared.Row.{Row}
-use Rattle.gnat_rows.specs.Shows.{Holds-samples, Shows, Shows-parts, sample-in, pivot-in, held, column}
+use Rattle.gnat_rows.specs.Shows.{Holds-samples, Shows, Shows-parts, sample-in, pivot-in, held}
 use Rattle.gnat_search.specs.Nodes.{Flags, open-rows}
 use Rattle.gnat_search.proofs.Rows.{same-row}
 
@@ -68,9 +68,6 @@ module _ {E : Type 0} (rows : List (Row E)) where
   waiting-open b flags ss f none j fs n s = tt
   waiting-open b flags ss f (part p col t rest) j fs n s = go (waiting-open b flags ss f rest (suc j) (s .2) (omega arith) (s .7)) (struck ss col) (f j (omega arith) ∙ ap (struck ss) (s .5))
     where
-      m : ℕ
-      m = length (pivots rest)
-
       go : Waiting (open-rows (b .pivots) flags (suc j) (length (pivots rest))) (unstruck rest ss) → (x : Bool) → getD flags j false ≡ x
           → Waiting (cond (getD flags j false) (open-rows (b .pivots) flags (suc j) (length (pivots rest))) (getD (b .pivots) j 0 ∷ open-rows (b .pivots) flags (suc j) (length (pivots rest)))) (cond x (unstruck rest ss) (t ∷ unstruck rest ss))
       go ih true e = subst (λ y. Waiting (cond y (open-rows (b .pivots) flags (suc j) (length (pivots rest))) (getD (b .pivots) j 0 ∷ open-rows (b .pivots) flags (suc j) (length (pivots rest)))) (unstruck rest ss)) (sym e) ih

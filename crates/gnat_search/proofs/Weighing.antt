@@ -1,7 +1,7 @@
 -- How much is pending, read from the rows: it falls with every turn of the search. Assumes nothing.
-use mathlib.Core.List.{List, [], _∷_, _++_}
-use mathlib.Core.Path.{_≡_, refl, sym, ap, subst, _∙_}
-use Prim.Native.Nat.{ℕ, zero, suc, _+_, _≤_, _<_}
+use mathlib.Core.List.{List, [], _∷_}
+use mathlib.Core.Path.{_≡_, refl, ap, _∙_}
+use Prim.Native.Nat.{ℕ, zero, suc, _+_, _≤_}
 use native.Mathlib.Omega.{arith}
 use lib.ListN.{length, getD}
 use Rattle.std.specs.Finite.{nth}
@@ -41,6 +41,7 @@ module _ {E : Type 0} (rows : List (Row E)) where
 
   mutual
     unfolding pivots-below
+
     pub below-is : (t : Tree E) (k : ℕ) (n : Node) (fs : List ℕ) → pivot-count t ≤ k → Shows rows n t fs → pivots-below k n ≡ pivot-count t
     below-is (leaf xs) zero n fs l s = refl
     below-is (leaf xs) (suc k) n fs l s = ap (one-deeper (pivots-below k)) (s .1)

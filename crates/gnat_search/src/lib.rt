@@ -1,15 +1,14 @@
 // Searching a GNAT that lies in lent rows, by a list of pending rows: no recursion, no allocation.
+ghost use mathlib.Core.List.{List, _++_};
 ghost use mathlib.Core.Path.{_≡_};
 ghost use Prim.Native.Nat.{_+_, _<_, _≤_};
 ghost use lib.ListN.{length, take};
-ghost use Rattle.gnat_rows.specs.Rows.{Has-row};
-ghost use Rattle.gnat_rows.specs.Shows.{sample-in, pivot-in};
-ghost use mathlib.Core.List.{List, _++_};
 ghost use Rattle.gnat_theory.specs.Searching.{State, measure, outside as outside-of};
 ghost use Rattle.gnat_theory.specs.Searching.Sight.{seen};
+ghost use Rattle.gnat_rows.specs.Rows.{Has-row};
+ghost use Rattle.gnat_rows.specs.Shows.{sample-in, pivot-in};
 ghost use Rattle.gnat_search.specs.Wants.{want, Room, Counted, Kept, Steps, counted-in, Pivot-counted};
 ghost use Rattle.gnat_search.specs.Nodes.{Struck-more, open-rows, Leaf-shown, Branch-shown, Searchable, Leaf-measured, Branch-surveyed, Searched};
-
 use gnat_rows::Branch;
 use gnat_rows::Leaf;
 use gnat_rows::Node;
@@ -26,14 +25,14 @@ use metric::Metric;
 const PENDING: usize = 1024;
 
 // What is wanted: the nearest, as many as the list has places, or all within a radius.
-#[derive(Clone, Copy, Debug, PartialEq)]
+#[derive(Clone, Copy)]
 pub enum Aim {
     Nearest,
     Within(u32),
 }
 
 // How many hits were found, how many of them the list holds, and how many distances were measured.
-#[derive(Clone, Copy, Debug, PartialEq)]
+#[derive(Clone, Copy)]
 pub struct Found {
     pub found: usize,
     pub held: usize,
@@ -96,7 +95,14 @@ fn reach(aim: Aim, list: &[Hit], so_far: Found) -> Option<u32>
 }
 
 // Measures the sample in a row.
-fn measure_row<E: Metric>(rows: &[Row<E>], at: usize, q: &E, aim: Aim, list: &mut [Hit], so_far: Found) -> Found
+fn measure_row<E: Metric>(
+    rows: &[Row<E>],
+    at: usize,
+    q: &E,
+    aim: Aim,
+    list: &mut [Hit],
+    so_far: Found,
+) -> Found
     requires { ⌜ at < length (now rows) ⌝ ∗ ⌜ Room «so_far» 1 ⌝ }
     ensures counts { λ r. ⌜ Counted «so_far» r 1 ⌝ }
     ensures keeps { λ r. ⌜ Has-row (now (rows .entry)) at (λ row. Steps (measure dist (now (q .entry)) (want aim (length (now (list .entry)))) (sample-in row)) (now (list .entry)) (now (list .exit)) «so_far» r) ⌝ }
@@ -109,7 +115,14 @@ fn measure_row<E: Metric>(rows: &[Row<E>], at: usize, q: &E, aim: Aim, list: &mu
 }
 
 // Counts the pivot in a row, which is at this distance. Marked, it is no hit.
-fn count_pivot<E: Metric>(rows: &[Row<E>], at: usize, distance: u32, aim: Aim, list: &mut [Hit], so_far: Found) -> Found
+fn count_pivot<E: Metric>(
+    rows: &[Row<E>],
+    at: usize,
+    distance: u32,
+    aim: Aim,
+    list: &mut [Hit],
+    so_far: Found,
+) -> Found
     requires { ⌜ at < length (now rows) ⌝ ∗ ⌜ Room «so_far» 1 ⌝ }
     ensures counts { λ r. ⌜ Counted «so_far» r 1 ⌝ }
     ensures keeps { λ r. ⌜ Has-row (now (rows .entry)) at (λ row. Pivot-counted dist distance (pivot-in row) aim (now (list .entry)) (now (list .exit)) «so_far» r) ⌝ }
@@ -137,7 +150,13 @@ fn outside(distance: u32, radius: u32, low: u32, high: u32) -> bool
 }
 
 // Strikes the children that the ranges of a pivot show to be out of reach.
-fn strike(mut struck: [bool; 8], branch: &Branch, pivot: usize, distance: u32, reach: Option<u32>) -> [bool; 8]
+fn strike(
+    mut struck: [bool; 8],
+    branch: &Branch,
+    pivot: usize,
+    distance: u32,
+    reach: Option<u32>,
+) -> [bool; 8]
     requires { ⌜ pivot < now branch .count ⌝ ∗ ⌜ now branch .count ≤ 8 ⌝ }
     ensures { λ r. ⌜ Struck-more (now (branch .entry)) pivot (seen distance reach) struck r ⌝ }
 {
@@ -155,7 +174,14 @@ fn strike(mut struck: [bool; 8], branch: &Branch, pivot: usize, distance: u32, r
 }
 
 // Measures the samples of a leaf.
-fn measure_leaf<E: Metric>(rows: &[Row<E>], leaf: &Leaf, q: &E, aim: Aim, list: &mut [Hit], mut so_far: Found) -> Found
+fn measure_leaf<E: Metric>(
+    rows: &[Row<E>],
+    leaf: &Leaf,
+    q: &E,
+    aim: Aim,
+    list: &mut [Hit],
+    mut so_far: Found,
+) -> Found
     requires { ⌜ Leaf-shown (now rows) (now leaf) ⌝ ∗ ⌜ Room «so_far» 32 ⌝ }
     ensures counts { λ r. ⌜ Counted «so_far» r 32 ⌝ }
     ensures keeps { λ r. ⌜ Leaf-measured (now (rows .entry)) dist (now (q .entry)) aim (now (leaf .entry)) (now (list .entry)) (now (list .exit)) «so_far» r ⌝ }
@@ -168,7 +194,14 @@ fn measure_leaf<E: Metric>(rows: &[Row<E>], leaf: &Leaf, q: &E, aim: Aim, list: 
 
 // Measures the pivots of a branch in order, but for those that are struck. Each strikes by its ranges,
 // as far as a sample could then still count.
-fn survey<E: Metric>(rows: &[Row<E>], branch: &Branch, q: &E, aim: Aim, list: &mut [Hit], mut so_far: Found) -> View
+fn survey<E: Metric>(
+    rows: &[Row<E>],
+    branch: &Branch,
+    q: &E,
+    aim: Aim,
+    list: &mut [Hit],
+    mut so_far: Found,
+) -> View
     requires { ⌜ Branch-shown (now rows) (now branch) ⌝ ∗ ⌜ Room «so_far» 8 ⌝ }
     ensures counts { λ r. ⌜ Counted «so_far» (r .«so_far») 8 ⌝ }
     ensures keeps { λ r. ⌜ Branch-surveyed (now (rows .entry)) dist (now (q .entry)) aim (now (branch .entry)) (now (list .entry)) (now (list .exit)) «so_far» (r .«so_far») (r .struck) ⌝ }
@@ -178,9 +211,10 @@ fn survey<E: Metric>(rows: &[Row<E>], branch: &Branch, q: &E, aim: Aim, list: &m
         if !struck[i] {
             let at = branch.pivots[i] as usize;
             let distance = q.distance(&element_in(rows, at));
-            so_far = count_pivot(rows, at, distance, aim, list, so_far);
-            let within = reach(aim, list, so_far);
+            let counted = count_pivot(rows, at, distance, aim, list, so_far);
+            let within = reach(aim, list, counted);
             struck = strike(struck, branch, i, distance, within);
+            so_far = counted;
         }
     }
     View { so_far, struck }

@@ -21,3 +21,11 @@ returns-then-hit-radius c = record {
       subst (λ a. Kept old (c .place-held-then-hit-radius .last .list) (record { found = c .args .so-far .found + 1; held = c .place-held-then-hit-radius .result; measured = c .args .so-far .measured + 1 }) (counted-in (want a (length (c .args .list .now))) (c .args .hit) st)) (sym (c .in-Within .is))
       (within-kept old (c .args .list .now) (c .args .so-far) st k (c .args .hit) (c .place-held-then-hit-radius .result) (c .place-held-then-hit-radius .last .list) (c .place-held-then-hit-radius .ensures .kept) (c .place-held-then-hit-radius .ensures .ties) (c .in-Within .radius) (c .if-hit-radius .taken));
 }
+
+pub returns-else-hit-radius : need.returns-else-hit-radius
+returns-else-hit-radius c = record {
+  counts = record { shown = c .pre .shown; few = omega arith; most = omega arith };
+  keeps = λ old st k.
+      subst (λ a. Kept old (c .args .list .now) (record { found = c .args .so-far .found; held = c .args .so-far .held; measured = c .args .so-far .measured + 1 }) (counted-in (want a (length (c .args .list .now))) (c .args .hit) st)) (sym (c .in-Within .is))
+      (far-kept old (c .args .list .now) (c .args .so-far) st k (c .args .hit) (c .in-Within .radius) (c .if-hit-radius .left));
+}

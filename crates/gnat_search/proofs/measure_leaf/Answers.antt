@@ -1,5 +1,4 @@
-use mathlib.Core.Path.{_≡_, sym, ap, subst, _∙_}
-use Prim.Native.Nat.{_+_, _<_}
+use mathlib.Core.Path.{sym, subst}
 use native.Mathlib.Omega.{arith}
 use lib.ListN.{length, take, getD}
 use Rattle.gnat_theory.specs.Searching.{measure, measure-all}
@@ -15,10 +14,10 @@ loop-i-holds g c = (record { shown = c .pre .1 .shown; few = c .pre .1 .few; mos
 pub measure-row-so-far-requires : need.measure-row-so-far-requires
 measure-row-so-far-requires g c κs =
     let shown = c .pre .0 in
-    let at = leaf-at (c .args .rows .now) (c .args .leaf .now) (shown .1) (shown .2) (shown .0) (c .loop-i .i) (shown .3) (c .loop-i-test .taken) in
-    (
+    let at = leaf-at (c .args .rows .now) (c .args .leaf .now) (shown .1) (shown .2) (shown .0) (c .loop-i .i) (shown .3) (c .loop-i-test .taken) in (
       nth-within (c .args .rows .now) (getD (c .args .leaf .now .rows) (c .loop-i .i) 0) (at .0) (at .1),
-      record { shown = c .loop-i .inv .0 .shown; few = c .loop-i .inv .0 .few; fits = omega (arith, c .loop-i .inv .0 .most, c .pre .1 .fits, c .loop-i-test .taken, shown .2) })
+      record { shown = c .loop-i .inv .0 .shown; few = c .loop-i .inv .0 .few; fits = omega (arith, c .loop-i .inv .0 .most, c .pre .1 .fits, c .loop-i-test .taken, shown .2) },
+    )
 
 pub loop-i-again : need.loop-i-again
 loop-i-again g c =
@@ -29,14 +28,14 @@ loop-i-again g c =
     let i = c .loop-i .i in
     let shown = c .pre .0 in
     let call = c .measure-row-so-far in
-    let found = call .ensures .keeps in
-    (
+    let found = call .ensures .keeps in (
       record { shown = call .ensures .counts .shown; few = call .ensures .counts .few; most = omega (arith, call .ensures .counts .most, c .loop-i .inv .0 .most) },
       λ xs h old st k.
           let w = want (c .args .aim) (length (c .args .list .now)) in
           let before = measure-all dist q w (take i xs) st in
           subst (Kept old (call .last .list) (call .result)) (sym (leaf-more rows leaf (shown .1) (shown .2) dist q w xs h i (found .0) st (c .loop-i-test .taken) (found .1)))
-          (subst (λ n. Kept old (call .last .list) (call .result) (measure dist q (want (c .args .aim) n) (sample-in (found .0)) before)) (c .loop-i .kept .list) (found .2 old before (c .loop-i .inv .1 xs h old st k))))
+          (subst (λ n. Kept old (call .last .list) (call .result) (measure dist q (want (c .args .aim) n) (sample-in (found .0)) before)) (c .loop-i .kept .list) (found .2 old before (c .loop-i .inv .1 xs h old st k))),
+    )
 
 pub returns : need.returns
 returns g c =

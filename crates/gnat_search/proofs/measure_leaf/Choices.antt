@@ -1,11 +1,9 @@
 use mathlib.Core.List.{List}
-use Prim.Native.Nat.{ℕ}
 use lib.ListN.{length, take}
-use Rattle.hits.specs.declared.Hit.{Hit}
 use Rattle.hits.specs.Samples.{Sample}
-use Rattle.gnat_theory.specs.Searching.{State, measure-all}
+use Rattle.gnat_theory.specs.Searching.{measure-all}
 use Rattle.gnat_rows.specs.Shows.{Holds-samples, held}
-use Rattle.gnat_search.specs.Wants.{want, Counted, Kept, Steps}
+use Rattle.gnat_search.specs.Wants.{want, Counted, Steps}
 use Rattle.gnat_search.proofs.measure_leaf.Given as given
 
 -- the first i samples were measured

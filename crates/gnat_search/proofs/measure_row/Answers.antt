@@ -16,7 +16,11 @@ returns g c =
     let far : c .distance .result ≡ dist q (row .element) = c .distance .ensures ∙ ap (dist q) (found .2 ∙ ap (λ r. r .element) same) in
     record {
       counts = c .keep .ensures .counts;
-      keeps = (row, named .1, λ old st k.
-          subst (λ h. Kept old (c .keep .last .list) (c .keep .result) (counted-in (want (c .args .aim) (length (c .args .list .now))) h st)) (same-hit (c .number-in .result) (row .number) (c .distance .result) (dist q (row .element)) (named .2) far)
-          (c .keep .ensures .keeps old st k));
+      keeps = (
+        row,
+        named .1,
+        λ old st k.
+            subst (λ h. Kept old (c .keep .last .list) (c .keep .result) (counted-in (want (c .args .aim) (length (c .args .list .now))) h st)) (same-hit (c .number-in .result) (row .number) (c .distance .result) (dist q (row .element)) (named .2) far)
+            (c .keep .ensures .keeps old st k),
+      );
     }

@@ -1,8 +1,8 @@
-use mathlib.Core.List.{List, _++_}
-use mathlib.Core.Path.{_≡_, ap, sym, _∙_}
-use Prim.Native.Nat.{ℕ, _+_, _-_}
+use mathlib.Core.List.{_++_}
+use mathlib.Core.Path.{ap, sym, _∙_}
+use Prim.Native.Nat.{_+_, _-_}
 use native.Mathlib.Omega.{arith}
-use lib.ListN.{take, length}
+use lib.ListN.{take}
 use Rattle.std.proofs.shelf.Lists.{append-nil}
 use Rattle.gnat_search.specs.Nodes.{open-rows}
 use Rattle.gnat_search.proofs.Pushing.{open-struck, open-pushed, none-left}
@@ -18,15 +18,17 @@ loop-i-again c =
     let rest = open-rows pivots flags (i + 1) (count - (i + 1)) in
     elim (c .if-not-struck-i .came) [
       | then-not-struck-i w ↦ (
-          omega (arith, w .top-is, c .loop-i .inv .0),
-          ap (λ z. take z (c .if-not-struck-i .pending) ++ rest) (w .top-is)
-          ∙ (ap (λ z. take (c .loop-i .top + 1) z ++ rest) (w .pending-is)
-          ∙ (open-pushed pivots flags i count (c .loop-i-test .taken) (c .loop-i .pending) (c .loop-i .top) (omega (arith, c .loop-i .inv .0, c .pre .1)) (w .if-not-struck-i .taken) ∙ c .loop-i .inv .1)))
+        omega (arith, w .top-is, c .loop-i .inv .0),
+        ap (λ z. take z (c .if-not-struck-i .pending) ++ rest) (w .top-is)
+            ∙ (ap (λ z. take (c .loop-i .top + 1) z ++ rest) (w .pending-is)
+            ∙ (open-pushed pivots flags i count (c .loop-i-test .taken) (c .loop-i .pending) (c .loop-i .top) (omega (arith, c .loop-i .inv .0, c .pre .1)) (w .if-not-struck-i .taken) ∙ c .loop-i .inv .1)),
+      )
       | else-not-struck-i w ↦ (
-          omega (arith, w .top-is, c .loop-i .inv .0),
-          ap (λ z. take z (c .if-not-struck-i .pending) ++ rest) (w .top-is)
-          ∙ (ap (λ z. take (c .loop-i .top) z ++ rest) (w .pending-is)
-          ∙ (ap (λ z. take (c .loop-i .top) (c .loop-i .pending) ++ z) (open-struck pivots flags i count (c .loop-i-test .taken) (w .if-not-struck-i .left)) ∙ c .loop-i .inv .1)))
+        omega (arith, w .top-is, c .loop-i .inv .0),
+        ap (λ z. take z (c .if-not-struck-i .pending) ++ rest) (w .top-is)
+            ∙ (ap (λ z. take (c .loop-i .top) z ++ rest) (w .pending-is)
+            ∙ (ap (λ z. take (c .loop-i .top) (c .loop-i .pending) ++ z) (open-struck pivots flags i count (c .loop-i-test .taken) (w .if-not-struck-i .left)) ∙ c .loop-i .inv .1)),
+      )
     ]
 
 pub returns : need.returns

@@ -1,10 +1,10 @@
 use mathlib.Core.Bool.{true, false}
-use mathlib.Core.List.{List, [], _∷_, _++_}
-use mathlib.Core.Path.{_≡_, refl, sym, ap, subst, _∙_}
-use Prim.Native.Nat.{ℕ, _+_, _≤_, _<_}
+use mathlib.Core.List.{[], _∷_, _++_}
+use mathlib.Core.Path.{sym, ap, subst, _∙_}
+use Prim.Native.Nat.{_<_}
 use native.Mathlib.Omega.{arith}
 use borrow.Author.Needs.{needs, below-row}
-use lib.ListN.{length, getD, set, length-set}
+use lib.ListN.{length, getD, length-set}
 use Rattle.gnat_theory.specs.Searching.Sight.{seen}
 use Rattle.gnat_search.specs.Nodes.{Flags}
 use Rattle.gnat_search.proofs.Flagging.{Tested, quiet-flags, strikes-none, tested-all, child-struck, child-left, others-stay}
@@ -29,13 +29,15 @@ loop-child-again c =
     let inv = c .loop-child .inv in
     elim (c .if-outside .came) [
       | then-outside w ↦ (
-          ap length (w .struck-is) ∙ (length-set flags child true ∙ inv .0),
-          (λ j k. subst (λ z. Tested b i d R before z j) (sym (w .struck-is)) (child-struck b i d R before flags child (inv .1) (inv .2) (lows c) (highs c) (omega (arith, inv .0)) (sym (w .if-outside .ensures tt)) j k)),
-          (λ j k. ap (λ z. getD z j false) (w .struck-is) ∙ others-stay b i d R before flags child (inv .1) (inv .2) (lows c) (highs c) j k))
+        ap length (w .struck-is) ∙ (length-set flags child true ∙ inv .0),
+        (λ j k. subst (λ z. Tested b i d R before z j) (sym (w .struck-is)) (child-struck b i d R before flags child (inv .1) (inv .2) (lows c) (highs c) (omega (arith, inv .0)) (sym (w .if-outside .ensures tt)) j k)),
+        (λ j k. ap (λ z. getD z j false) (w .struck-is) ∙ others-stay b i d R before flags child (inv .1) (inv .2) (lows c) (highs c) j k),
+      )
       | else-outside w ↦ (
-          ap length (w .struck-is) ∙ inv .0,
-          (λ j k. subst (λ z. Tested b i d R before z j) (sym (w .struck-is)) (child-left b i d R before flags child (inv .1) (inv .2) (lows c) (highs c) (sym (w .if-outside .ensures tt)) j k)),
-          (λ j k. ap (λ z. getD z j false) (w .struck-is) ∙ inv .2 j (omega arith)))
+        ap length (w .struck-is) ∙ inv .0,
+        (λ j k. subst (λ z. Tested b i d R before z j) (sym (w .struck-is)) (child-left b i d R before flags child (inv .1) (inv .2) (lows c) (highs c) (sym (w .if-outside .ensures tt)) j k)),
+        (λ j k. ap (λ z. getD z j false) (w .struck-is) ∙ inv .2 j (omega arith)),
+      )
     ]
 
 pub returns-in-rest : need.returns-in-rest

@@ -16,4 +16,4 @@ Inv-loop-i g l =
     (length (l .struck) ≡ 8)
     × Counted (l .entry .so-far) (l .so-far) (l .i)
     × ((ps : Parts (g .E .Denot)) (fs : List ℕ) → l .branch .count ≡ length (pivots ps) → Shows-parts (l .rows) (l .branch) 0 ps fs → (old : List Hit) (st : State) → Kept old (l .entry .list) (l .entry .so-far) st
-        → Left (l .rows) (g .E·Metric .dist) (l .q) (want (l .aim) (length (l .entry .list))) (l .branch) ps st old (l .i) (l .struck) (l .list) (l .so-far))
+    → Left (l .rows) (g .E·Metric .dist) (l .q) (want (l .aim) (length (l .entry .list))) (l .branch) ps st old (l .i) (l .struck) (l .list) (l .so-far))
