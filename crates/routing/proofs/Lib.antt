@@ -1,0 +1,2 @@
+pub mod Lowering
+pub mod Walking
