@@ -20,3 +20,8 @@ renamed f e = edge (f (e .elder)) (f (e .younger)) (e .length)
 -- both ends are below n, and it is no longer than the greatest distance of any kind
 abbrev pub Inside : ℕ → Edge → Type 0
 Inside n e = (e .elder < n) × (e .younger < n) × (e .length ≤ 1048576)
+
+-- numbers rise, from above `low`
+abbrev pub Rises : ℕ → List ℕ → Type 0
+Rises low [] = Unit {0}
+Rises low (n ∷ ns) = (low < n) × Rises n ns
