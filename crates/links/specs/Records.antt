@@ -79,3 +79,12 @@ closed at used links = take at links ++ ((drop 1 (part at used links) ++ take 1 
 abbrev pub Found : ℕ → List Links → Option ℕ → Type 0
 Found n links None = has (numbers links) n ≡ false
 Found n links (Some i) = (i < length links) × (number-at links i ≡ n)
+
+-- the edge ends at n
+abbrev pub touches : ℕ → Edge → Bool
+touches n e = eqb (e .elder) n || eqb (e .younger) n
+
+-- the edges that do not end at n
+abbrev pub edges-without : ℕ → List Edge → List Edge
+edges-without n [] = []
+edges-without n (e ∷ es) = cond (touches n e) (edges-without n es) (e ∷ edges-without n es)
