@@ -4,17 +4,18 @@ use mathlib.Core.Path.{_≡_, refl, sym, ap, subst, _∙_}
 use Prim.Native.Nat.{ℕ, zero, suc, _+_, _≤_, _<_, min}
 use native.Mathlib.Omega.{arith}
 use denote.Ref.{now}
-use lib.ListN.{length, getD, take, replicate}
+use lib.ListN.{length, getD, take, drop, replicate}
 use lib.Seq.{take-suc}
 use Rattle.std.specs.Finite.{nth}
 use Rattle.std.specs.shelf.Lists.{All}
 use Rattle.std.specs.declared.option.Option.the-variants.{Some}
 use Rattle.std.proofs.shelf.Elements.{all-take, all-getD}
-use Rattle.std.proofs.shelf.Lists.{append-nil, length-take, length-take-le, length-map, take-all}
+use Rattle.std.proofs.shelf.Lists.{append-nil, length-take, length-take-le, length-map, take-all, take-append-drop, getD-take}
 use Rattle.hits.specs.Samples.{Sample, Rising}
 use Rattle.index.specs.Meaning.{Meaning}
-use Rattle.gnat_theory.specs.Tree.{Tree}
-use Rattle.gnat_theory.specs.Tree.Tree.{leaf}
+use Rattle.gnat_theory.specs.Tree.{Tree, Parts}
+use Rattle.gnat_theory.specs.Tree.Tree.{leaf, branch}
+use Rattle.gnat_theory.specs.Tree.Parts.{none, part}
 use Rattle.gnat_theory.specs.Filing.{filed, filed-all}
 use Rattle.gnat_theory.specs.Splitting.{grown, kept-or-split}
 use Rattle.gnat_theory.specs.Rebuilding.{rebuilt}
@@ -28,17 +29,30 @@ use Rattle.gnat_rows.specs.declared.Row.{Row}
 use Rattle.gnat_rows.specs.Rows.{empty}
 use Rattle.gnat_rows.specs.Lying.{Absent, Distinct, Only-in}
 use Rattle.gnat_rows.specs.Shows.{Shows, sample-in}
-use Rattle.gnat_rows.specs.Trees.{sample-on, samples-at, tree-of}
+use Rattle.gnat_rows.specs.Trees.{sample-on, samples-at, tree-of, height, height-parts}
 use Rattle.gnat_rows.proofs.Apart.{distinct-left, distinct-shuffle}
 use Rattle.gnat_rows.proofs.Only.{only-none, only-wider, only-then}
 use Rattle.gnat_rows.proofs.Trees.{shown-tree}
 use Rattle.gnat_order.specs.Order.{Within, places}
+use Rattle.gnat_order.proofs.Places.{place-of}
 use Rattle.gnat_order.proofs.Numbers.{there, length-samples-at}
 use Rattle.gnat_order.proofs.Framing.{samples-only, places-only, samples-append}
+use Rattle.gnat_filing.specs.Filed.{Settings, Ready, Files-in, depth, deepest}
 use Rattle.gnat.specs.declared.gnat.Gnat.{Gnat}
 use Rattle.gnat.specs.Gnats.{capacity-of, listed, standing-in, gnat-meaning, gnat-tree, Gnat-sound}
+use Rattle.gnat.specs.Refiling.{Refiled}
 use Rattle.gnat.specs.Lawful.{in-rows, listed-within, standing-count}
 use Rattle.gnat.proofs.Adding.{shallow}
+
+-- filing counts the branches as the rows do
+mutual
+  pub depth-is-height : {E : Type 0} (t : Tree E) → depth t ≡ height t
+  depth-is-height (leaf xs) = refl
+  depth-is-height (branch ps) = omega (arith, deepest-is-height ps)
+
+  deepest-is-height : {E : Type 0} (ps : Parts E) → deepest ps ≡ height-parts ps
+  deepest-is-height none = refl
+  deepest-is-height (part p column t rest) = omega (arith, depth-is-height t, deepest-is-height rest)
 
 module _ {E : Type 0} (dist : E → E → ℕ) where
   filed-push : (became : List (Sample E) → Tree E) (xs : List (Sample E)) (s : Sample E) (t : Tree E) → filed-all dist became (xs ++ (s ∷ [])) t ≡ filed dist became s (filed-all dist became xs t)
@@ -50,16 +64,7 @@ module _ {E : Type 0} (dist : E → E → ℕ) where
   rebuilt-more degree bucket xs s = filed-push (kept-or-split dist degree bucket) xs s (leaf [])
 
   module _ (degree bucket : ℕ) (rows : List (Row E)) (order : List ℕ) where
-    -- After j of the rows in this order: the node shows the tree of their samples, which lies in them, and only these
-    -- rows have changed, but not their samples or places.
-    pub record Refiled (j : ℕ) (new : List (Row E)) (root : Node) : Type 0 where
-      pub lies : List ℕ
-      pub shows : Shows new root (rebuilt dist degree bucket (samples-at rows (take j order))) lies
-      pub same-rows : Shuffle ℕ lies (take j order)
-      pub only : Only-in order rows new
-      pub as-long : length new ≡ length rows
-
-    module _ (within : Within order (length rows)) (j : ℕ) (inside : j < length order) (new later : List (Row E)) (root grown-root : Node) (f : Refiled j new root) (row : Row E) (is-row : nth new (getD order j 0) ≡ Some row)
+    module _ (within : Within order (length rows)) (j : ℕ) (inside : j < length order) (new later : List (Row E)) (root grown-root : Node) (f : Refiled dist degree bucket rows order j new root) (row : Row E) (is-row : nth new (getD order j 0) ≡ Some row)
         (lies : List ℕ) (shows : Shows later grown-root (grown dist degree bucket (sample-in row) (rebuilt dist degree bucket (samples-at rows (take j order)))) lies) (same-rows : Shuffle ℕ lies (getD order j 0 ∷ f .lies)) (only : Only-in (getD order j 0 ∷ f .lies) new later) (as-long : length later ≡ length new) where
       more : take (suc j) order ≡ take j order ++ (getD order j 0 ∷ [])
       more = take-suc order j 0 inside
@@ -86,7 +91,7 @@ module _ {E : Type 0} (dist : E → E → ℕ) where
           let turned : Shuffle ℕ (take j order ++ (getD order j 0 ∷ [])) (getD order j 0 ∷ take j order) = subst (λ z. Shuffle ℕ (take j order ++ (getD order j 0 ∷ [])) (getD order j 0 ∷ z)) (append-nil (take j order)) (shuffle-front (take j order) (getD order j 0) []) in
           in-turn _ _ _ same-rows (in-turn _ _ _ (after (getD order j 0) _ _ (f .same-rows)) (subst (Shuffle ℕ (getD order j 0 ∷ take j order)) (sym more) (shuffle-back _ _ turned)))
 
-      pub refiled-more : Refiled (suc j) later grown-root
+      pub refiled-more : Refiled dist degree bucket rows order (suc j) later grown-root
       refiled-more = record {
         lies = lies;
         shows = subst (λ t. Shows later grown-root t lies) (sym next-tree) shows;
@@ -95,9 +100,58 @@ module _ {E : Type 0} (dist : E → E → ℕ) where
         as-long = as-long ∙ f .as-long;
       }
 
+    -- the next row may be filed
+    module _ (settings : Settings degree bucket) (few : length order ≤ 1024) (within : Within order (length rows)) (apart : Distinct order) (j : ℕ) (inside : j < length order) (new : List (Row E)) (root : Node) (f : Refiled dist degree bucket rows order j new root) where
+      abbrev filed-tree : Tree E
+      filed-tree = rebuilt dist degree bucket (samples-at rows (take j order))
+
+      so-far : Files dist degree bucket (samples-at rows (take j order)) filed-tree
+      so-far = keeps-tree dist degree bucket (omega (arith, settings .two)) (settings .room) .by-rebuilding (samples-at rows (take j order)) .files
+
+      next-apart : Distinct (getD order j 0 ∷ f .lies)
+      next-apart =
+          let front : Distinct (take (suc j) order) = distinct-left (take (suc j) order) (drop (suc j) order) (subst Distinct (sym (take-append-drop (suc j) order)) apart) in
+          let turned : Shuffle ℕ (take j order ++ (getD order j 0 ∷ [])) (getD order j 0 ∷ take j order) = subst (λ z. Shuffle ℕ (take j order ++ (getD order j 0 ∷ [])) (getD order j 0 ∷ z)) (append-nil (take j order)) (shuffle-front (take j order) (getD order j 0) []) in
+          distinct-shuffle _ _ (in-turn _ _ _ turned (after (getD order j 0) _ _ (shuffle-back _ _ (f .same-rows)))) (subst Distinct (take-suc order j 0 inside) front)
+
+      pub ready-next : Ready degree bucket 1025 new root (getD order j 0) filed-tree (f .lies)
+      ready-next = record {
+        shows = f .shows;
+        apart = next-apart;
+        within = omega (arith, all-getD (λ k. k < length rows) order j 0 inside within, f .as-long);
+        deep = omega (arith, depth-is-height filed-tree, shallow dist new root filed-tree (f .lies) degree bucket _ (settings .two) so-far (f .shows) (omega (arith, length-shuffle _ _ (f .same-rows), length-take j order)));
+        branching = so-far .branching;
+        leaves = so-far .leaves;
+      }
+
     -- before any is filed
-    pub refiled-none : Refiled 0 rows empty
+    pub refiled-none : Refiled dist degree bucket rows order 0 rows empty
     refiled-none = record { lies = []; shows = (record { count = 0; rows = replicate 32 0 }, refl, refl, omega arith, refl, tt); same-rows = nothing; only = only-none rows order; as-long = refl }
+
+-- the row that is listed next is filed
+module _ {E : Type 0} (dist : E → E → ℕ) (degree bucket : ℕ) (rows : List (Row E)) (standing : ℕ) (settings : Settings degree bucket) (fits : standing ≤ length rows) (few : standing ≤ 1024) (within : Within (take standing (places rows)) (length rows)) (apart : Distinct (take standing (places rows)))
+    (j : ℕ) (inside : j < standing) (new : List (Row E)) (root : Node) (f : Refiled dist degree bucket rows (take standing (places rows)) j new root) where
+  abbrev order : List ℕ
+  order = take standing (places rows)
+
+  all-listed : length order ≡ standing
+  all-listed = length-take-le standing (places rows) (omega (arith, fits, length-map rows (λ (r : Row E). r .place)))
+
+  pub next-place : (at : ℕ) (row : Row E) → nth new j ≡ Some row → at ≡ row .place → at ≡ getD order j 0
+  next-place at row is-row is-place =
+      is-place ∙ (sym (place-of new j row is-row) ∙ (ap (λ ps. getD ps j 0) (places-only order rows new (f .only) (f .as-long)) ∙ sym (getD-take standing (places rows) j 0 inside)))
+
+  next-ready : Ready degree bucket 1025 new root (getD order j 0) (rebuilt dist degree bucket (samples-at rows (take j order))) (f .lies)
+  next-ready = ready-next dist degree bucket rows order settings (omega (arith, all-listed)) within apart j (omega (arith, all-listed)) new root f
+
+  pub may-file : (at : ℕ) → at ≡ getD order j 0 → Ready degree bucket 1025 new root at (rebuilt dist degree bucket (samples-at rows (take j order))) (f .lies)
+  may-file at same = subst (λ i. Ready degree bucket 1025 new root i (rebuilt dist degree bucket (samples-at rows (take j order))) (f .lies)) (sym same) next-ready
+
+  pub has-filed : (at : ℕ) → at ≡ getD order j 0 → (later : List (Row E)) (after-it : Node) → Files-in dist degree bucket 1025 new later root after-it at → length later ≡ length new → Refiled dist degree bucket rows order (suc j) later after-it
+  has-filed at same later after-it files as-long =
+      let r = there new (getD order j 0) (next-ready .within) in
+      let l = subst (λ i. Files-in dist degree bucket 1025 new later root after-it i) same files _ (f .lies) (r .0) next-ready (r .1) in
+      refiled-more dist degree bucket rows order within j (omega (arith, all-listed)) new later root after-it f (r .0) (r .1) (l .lies) (l .shows) (l .same-rows) (l .only) as-long
 
 -- all that stand are filed anew: the marked rows are free
 module _ {E : Type 0} (dist : E → E → ℕ) (g : Gnat E) (o : Gnat-sound dist g) (new : List (Row E)) (root : Node) (f : Refiled dist (g .degree) (g .bucket) (now (g .rows)) (listed g) (g .standing) new root) where

@@ -1,3 +1,4 @@
 pub mod Chosen
 pub mod Gnats
 pub mod Lawful
+pub mod Refiling

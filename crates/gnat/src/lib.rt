@@ -1,4 +1,5 @@
 // The GNAT: an index over a tree of samples that lies in lent rows.
-pub mod chosen;
-pub mod gnat;
 pub mod settings;
+pub mod chosen;
+mod refile;
+pub mod gnat;

@@ -1,0 +1,4 @@
+pub mod Settling
+pub mod Joining
+pub mod Moving
+pub mod Places
