@@ -9,7 +9,7 @@ use Rattle.std.specs.shelf.Lists.{All}
 use Rattle.std.specs.declared.option.Option.the-variants.{Some}
 use Rattle.std.proofs.shelf.Elements.{all-weaker}
 use Rattle.hits.specs.Samples.{Sample}
-use Rattle.gnat_theory.specs.Tree.{Tree, Parts, Range, pivots}
+use Rattle.gnat_theory.specs.Tree.{Tree, Parts, Pivot, Range, pivots}
 use Rattle.gnat_theory.specs.Tree.Tree.{branch}
 use Rattle.gnat_theory.specs.Tree.Parts.{none, part}
 use Rattle.gnat_theory.specs.Filing.{nearest, widened, distances, filed, filed-under}
@@ -102,7 +102,7 @@ module _ {E : Type 0} (rows : List (Row E)) (b : Branch-record) (at : ℕ) (ps :
         same-rest : All (Same rows rows₂) (c .before ++ c .behind)
         same-rest = all-weaker (λ i. Absent i front) (Same rows rows₂) (λ i a. only-front .others i a) (c .before ++ c .behind) (distinct-across front (c .before ++ c .behind) front-apart)
 
-        pub level : (b′ : Branch-record) (f : List Range → List Range) (g : Tree E → Tree E) → b′ .count ≡ b .count → Mends b b′ j f → t′ ≡ g (c .tree) → length (pivots (replaced f g j ps)) ≡ length (pivots ps) → Leaves-tree rows rows₂ (node.Branch b′) (branch (replaced f g j ps)) (at ∷ fs)
+        pub level : (b′ : Branch-record) (f : List Range → List Range) (g : Tree E → Tree E) → b′ .count ≡ b .count → Mends b b′ j f → t′ ≡ g (c .tree) → length (pivots (replaced (λ p. p) f g j ps)) ≡ length (pivots ps) → Leaves-tree rows rows₂ (node.Branch b′) (branch (replaced (λ p. p) f g j ps)) (at ∷ fs)
         unfolding row′ pivot-row
         level b′ f g same-count mends is same-length =
             record {
@@ -112,7 +112,7 @@ module _ {E : Type 0} (rows : List (Row E)) (b : Branch-record) (at : ℕ) (ps :
                 refl,
                 same-count ∙ (r .count ∙ sym same-length),
                 omega (arith, r .most),
-                c .put-back rows₂ b′ f g row′ (given .lies) mends there′ refl (subst (λ z. Shows rows₂ kid z (given .lies)) is shows′)
+                c .put-back rows₂ b′ (λ p. p) f g row′ (given .lies) mends there′ refl (subst (λ z. Shows rows₂ kid z (given .lies)) is shows′)
                     (all-left (Same rows rows₂) (c .before) (c .behind) same-rest) (all-right (Same rows rows₂) (c .before) (c .behind) same-rest),
               );
               same-rows = subst (λ z. Shuffle ℕ (c .before ++ (pivot-row ∷ (given .lies ++ c .behind))) (at ∷ z)) (sym (c .lies)) (arranged-back at (c .before) pivot-row (c .below) (given .lies) (c .behind) (given .same-rows));
@@ -120,15 +120,15 @@ module _ {E : Type 0} (rows : List (Row E)) (b : Branch-record) (at : ℕ) (ps :
             }
 
 module _ {E : Type 0} (dist : E → E → ℕ) (became : List (Sample E) → Tree E) (s : Sample E) (ds : List ℕ) where
-  pub filed-is : (n : ℕ) (ps : Parts E) → filed-under dist became s ds n ps ≡ replaced (λ col. widened col ds) (filed dist became s) n ps
+  pub filed-is : (n : ℕ) (ps : Parts E) → filed-under dist became s ds n ps ≡ replaced (λ p. p) (λ col. widened col ds) (filed dist became s) n ps
   filed-is n none = refl
   filed-is zero (part p col t rest) = refl
   filed-is (suc n) (part p col t rest) = ap (part p col t) (filed-is n rest)
 
-pub replaced-length : {E : Type 0} (f : List Range → List Range) (g : Tree E → Tree E) (n : ℕ) (ps : Parts E) → length (pivots (replaced f g n ps)) ≡ length (pivots ps)
-replaced-length f g n none = refl
-replaced-length f g zero (part p col t rest) = refl
-replaced-length f g (suc n) (part p col t rest) = ap suc (replaced-length f g n rest)
+pub replaced-length : {E : Type 0} (h : Pivot E → Pivot E) (f : List Range → List Range) (g : Tree E → Tree E) (n : ℕ) (ps : Parts E) → length (pivots (replaced h f g n ps)) ≡ length (pivots ps)
+replaced-length h f g n none = refl
+replaced-length h f g zero (part p col t rest) = refl
+replaced-length h f g (suc n) (part p col t rest) = ap suc (replaced-length h f g n rest)
 
 module _ {E : Type 0} (degree bucket left : ℕ) (rows : List (Row E)) (n : Node) (at : ℕ) (t : Tree E) (fs : List ℕ) where
   pub record Is-branch (b : Branch-record) : Type 0 where
@@ -178,6 +178,6 @@ module _ {E : Type 0} (degree bucket left : ℕ) (rows : List (Row E)) (n : Node
         let g = filed dist became s in
         let here : nearest ds ≡ j = ap nearest (sym measured) ∙ near .near in
         let mends : Mends b b′ j f = record { pivots = near .widens .pivots; here = near .widens .wide ∙ ap (λ z. widened (column b j) z) measured; others = near .widens .others } in
-        let same : filed dist became s t ≡ branch (replaced f g j ps) = ap (filed dist became s) (i .tree) ∙ ap (λ z. branch (filed-under dist became s ds z ps)) here ∙ ap branch (filed-is dist became s ds j ps) in
+        let same : filed dist became s t ≡ branch (replaced (λ p. p) f g j ps) = ap (filed dist became s) (i .tree) ∙ ap (λ z. branch (filed-under dist became s ds z ps)) here ∙ ap branch (filed-is dist became s ds j ps) in
         subst (λ z. Leaves-tree rows rows₂ (node.Branch b′) z (at ∷ fs)) (sym same)
-        (level rows b at ps fs (i .ready) j c rows₁ rows₂ kid (g (c .tree)) below put b′ f g (near .widens .count) mends refl (replaced-length f g j ps))
+        (level rows b at ps fs (i .ready) j c rows₁ rows₂ kid (g (c .tree)) below put b′ f g (near .widens .count) mends refl (replaced-length (λ p. p) f g j ps))

@@ -6,3 +6,4 @@ pub mod Candidates
 pub mod Clearing
 pub mod Filling
 pub mod Assembling
+pub mod Shrinking

@@ -3,3 +3,4 @@ pub mod Filed
 pub mod Leaf
 pub mod Choosing
 pub mod Filling
+pub mod Dropping

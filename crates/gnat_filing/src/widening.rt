@@ -25,7 +25,7 @@ pub fn measured<E: Metric>(rows: &[Row<E>], b: &Branch, e: &E) -> [u32; 8]
 }
 
 // The place of the least of the first n distances, the earlier one if equal.
-fn closest(ds: &[u32; 8], n: usize) -> usize
+pub fn closest(ds: &[u32; 8], n: usize) -> usize
     requires { ⌜ 1 ≤ n ⌝ ∗ ⌜ n ≤ 8 ⌝ }
     ensures below { λ r. ⌜ r < n ⌝ }
     ensures near { λ r. ⌜ nearest (take n (now (ds .entry))) ≡ r ⌝ }

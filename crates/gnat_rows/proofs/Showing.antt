@@ -1,6 +1,7 @@
 -- The tree that rows show depends on its own rows alone; one child of a branch, and the branch with it changed. Assumes
 -- nothing.
 use mathlib.Core.List.{List, [], _∷_, _++_}
+use mathlib.Core.Logic.{_⊎_, inl, inr, ⊎-elim}
 use mathlib.Core.Path.{_≡_, refl, sym, ap, subst, _∙_}
 use Prim.Native.Nat.{ℕ, zero, suc, _+_, _≤_, _<_}
 use native.Mathlib.Omega.{arith}
@@ -10,11 +11,12 @@ use Rattle.std.specs.shelf.Lists.{All}
 use Rattle.std.specs.declared.option.Option.the-variants.{Some}
 use Rattle.std.proofs.shelf.Lists.{append-assoc, drop-more}
 use Rattle.std.proofs.shelf.Elements.{all-append}
-use Rattle.hits.specs.Samples.{Sample}
-use Rattle.gnat_theory.specs.Tree.{Tree, Parts, Pivot, Range, sample-of, pivots, members, gathered-parts, always}
+use Rattle.hits.specs.Samples.{Sample, Among}
+use Rattle.gnat_theory.specs.Tree.{Tree, Parts, Pivot, Range, sample-of, pivots, members, gathered, gathered-parts, always}
 use Rattle.gnat_theory.specs.Tree.Tree.{leaf, branch}
 use Rattle.gnat_theory.specs.Tree.Parts.{none, part}
 use Rattle.gnat_theory.specs.Filing.{distances}
+use Rattle.gnat_theory.proofs.Pruning.{among-left, among-right, among-append}
 use Rattle.gnat_rows.specs.declared.Leaf.{Leaf as Leaf-record}
 use Rattle.gnat_rows.specs.declared.Branch.{Branch as Branch-record}
 use Rattle.gnat_rows.specs.declared.Node.{Node}
@@ -23,7 +25,7 @@ use Rattle.gnat_rows.specs.declared.Row.{Row}
 use Rattle.gnat_rows.specs.Rows.{Has-row}
 use Rattle.gnat_rows.specs.Shows.{sample-in, pivot-in, held, column, Holds-samples, Shows, Shows-parts}
 use Rattle.gnat_rows.proofs.Apart.{all-left, all-right}
-use Rattle.gnat_rows.proofs.Changes.{nth-within}
+use Rattle.gnat_rows.proofs.Changes.{nth-within, same-row}
 
 module _ {E : Type 0} (rows rows′ : List (Row E)) where
   -- the row is as it was
@@ -124,11 +126,11 @@ of-child P Q f n none t i q = absurd i
 of-child P Q f zero (part p col u rest) t i q = subst P i (f p col u rest q .0)
 of-child P Q f (suc n) (part p col u rest) t i q = of-child P Q f n rest t i (f p col u rest q .1)
 
--- the n-th child changed by g, and the ranges to it by f
-abbrev pub replaced : {E : Type 0} → (List Range → List Range) → (Tree E → Tree E) → ℕ → Parts E → Parts E
-replaced f g n none = none
-replaced f g zero (part p col t rest) = part p (f col) (g t) rest
-replaced f g (suc n) (part p col t rest) = part p col t (replaced f g n rest)
+-- the n-th pivot changed by h, its child by g, and the ranges to that by f
+abbrev pub replaced : {E : Type 0} → (Pivot E → Pivot E) → (List Range → List Range) → (Tree E → Tree E) → ℕ → Parts E → Parts E
+replaced h f g n none = none
+replaced h f g zero (part p col t rest) = part (h p) (f col) (g t) rest
+replaced h f g (suc n) (part p col t rest) = part p col t (replaced h f g n rest)
 
 -- a branch of the same pivots and ranges but those to the m-th child
 pub record Mends (b b′ : Branch-record) (m : ℕ) (f : List Range → List Range) : Type 0 where
@@ -149,9 +151,9 @@ module _ {E : Type 0} (rows : List (Row E)) (b : Branch-record) where
     pub lies : fs ≡ before ++ (getD (b .pivots) m 0 ∷ (below ++ behind))
     pub is-child : Child-is n ps tree
     -- with this child changed, the parts changed
-    pub put-back : (rows′ : List (Row E)) (b′ : Branch-record) (f : List Range → List Range) (g : Tree E → Tree E) (row′ : Row E) (below′ : List ℕ) → Mends b b′ m f
-        → nth rows′ (getD (b .pivots) m 0) ≡ Some row′ → pivot-in row′ ≡ pivot-in row → Shows rows′ (row′ .node) (g tree) below′ → All (Same rows rows′) before → All (Same rows rows′) behind
-        → Shows-parts rows′ b′ k (replaced f g n ps) (before ++ (getD (b .pivots) m 0 ∷ (below′ ++ behind)))
+    pub put-back : (rows′ : List (Row E)) (b′ : Branch-record) (h : Pivot E → Pivot E) (f : List Range → List Range) (g : Tree E → Tree E) (row′ : Row E) (below′ : List ℕ) → Mends b b′ m f
+        → nth rows′ (getD (b .pivots) m 0) ≡ Some row′ → pivot-in row′ ≡ h (pivot-in row) → Shows rows′ (row′ .node) (g tree) below′ → All (Same rows rows′) before → All (Same rows rows′) behind
+        → Shows-parts rows′ b′ k (replaced h f g n ps) (before ++ (getD (b .pivots) m 0 ∷ (below′ ++ behind)))
 
   child-first : (k : ℕ) (p : Pivot E) (col : List Range) (t : Tree E) (rest : Parts E) (fs : List ℕ) → Shows-parts rows b k (part p col t rest) fs → Child k 0 k (part p col t rest) fs
   child-first k p col t rest fs s =
@@ -165,12 +167,12 @@ module _ {E : Type 0} (rows : List (Row E)) (b : Branch-record) where
         shows = s .6;
         lies = s .8;
         is-child = refl;
-        put-back = λ rows′ b′ f g row′ below′ mends there marks shows front back. (
+        put-back = λ rows′ b′ h f g row′ below′ mends there marks shows front back. (
           row′,
           below′,
           s .2,
           ap (λ z. nth rows′ (getD z k 0)) (mends .pivots) ∙ there,
-          marks ∙ s .4,
+          marks ∙ ap h (s .4),
           mends .here ∙ ap f (s .5),
           shows,
           frame-parts rows rows′ b b′ (suc k) rest (s .2) (mends .pivots) (λ j l. mends .others j (λ e. omega arith)) back (s .7),
@@ -193,7 +195,7 @@ module _ {E : Type 0} (rows : List (Row E)) (b : Branch-record) where
         shows = c .shows;
         lies = s .8 ∙ ap (λ z. i ∷ (s .1 ++ z)) (c .lies) ∙ ap (λ z. i ∷ z) (joined (c .below));
         is-child = c .is-child;
-        put-back = λ rows′ b′ f g row′ below′ mends there marks shows front back. (
+        put-back = λ rows′ b′ h f g row′ below′ mends there marks shows front back. (
           s .0,
           s .1,
           c .before ++ (j ∷ (below′ ++ c .behind)),
@@ -201,7 +203,7 @@ module _ {E : Type 0} (rows : List (Row E)) (b : Branch-record) where
           s .4,
           mends .others k ne ∙ s .5,
           frame rows rows′ (s .0 .node) t (s .1) (all-left (Same rows rows′) (s .1) (c .before) (front .1)) (s .6),
-          c .put-back rows′ b′ f g row′ below′ mends there marks shows (all-right (Same rows rows′) (s .1) (c .before) (front .1)) back,
+          c .put-back rows′ b′ h f g row′ below′ mends there marks shows (all-right (Same rows rows′) (s .1) (c .before) (front .1)) back,
           (λ e. getD (sym (mends .pivots) e) k 0 ∷ sym (joined below′) e),
         );
       }
@@ -210,6 +212,22 @@ module _ {E : Type 0} (rows : List (Row E)) (b : Branch-record) where
   child k n m none fs e l s = absurd (omega arith)
   child k zero m (part p col t rest) fs e l s = let q : k ≡ m = omega arith in subst (λ z. Child k 0 z (part p col t rest) fs) q (child-first k p col t rest fs s)
   child k (suc n) m (part p col t rest) fs e l s = child-next k n m (λ q. omega arith) p col t rest fs s (child (suc k) n m rest (s .2) (omega arith) (omega arith) (s .7))
+
+  -- a row below one of the parts that is no pivot's
+  pub child-holding : (at k : ℕ) (ps : Parts E) (fs : List ℕ) → Among at fs → ((j : ℕ) → k ≤ j → j < k + length (pivots ps) → getD (b .pivots) j 0 ≡ at → ⊥) → Shows-parts rows b k ps fs
+      → (n : ℕ) × (m : ℕ) × (m ≡ k + n) × (n < length (pivots ps)) × (c : Child k n m ps fs) × Among at (c .below)
+  unfolding child-first child-next
+  child-holding at k none fs a never s = absurd (subst (Among at) s a)
+  child-holding at k (part p col t rest) fs a never s =
+      ⊎-elim
+      (λ e. absurd (never k (omega arith) (omega arith) (sym e)))
+      (λ u. ⊎-elim
+      (λ v. (0, k, omega arith, omega arith, child-first k p col t rest fs s, v))
+      (λ v.
+      let w = child-holding at (suc k) rest (s .2) v (λ j x y. never j (omega arith) (omega arith)) (s .7) in
+      (suc (w .0), w .1, omega (arith, w .2), omega (arith, w .3), child-next k (w .0) (w .1) (λ q. omega (arith, w .2)) p col t rest fs s (w .4), w .5))
+      (among-append at (s .1) (s .2) u))
+      (subst (Among at) (s .8) a)
 
   -- measured pivot by pivot, the distances of the parts' pivots
   pub all-measured : (dist : E → E → ℕ) (x : Sample E) (ds : List ℕ) (k : ℕ) (ps : Parts E) (fs : List ℕ) → k + length (pivots ps) ≤ length ds
@@ -223,3 +241,31 @@ module _ {E : Type 0} (rows : List (Row E)) (b : Branch-record) where
       let here : getD ds k 0 ≡ dist (p .element) (x .element) = w .2 ∙ ap (λ z. dist (z .element) (x .element)) same ∙ ap (λ z. dist (z .element) (x .element)) (s .4) in
       ap (take (suc (length (pivots rest)))) (drop-more ds k 0 (omega arith) ∙ ap (λ z. getD ds k 0 ∷ drop z ds) more)
       ∙ (λ i. here i ∷ all-measured dist x ds (suc k) rest (s .2) (omega arith) (λ j u v. h j (omega arith) (omega arith)) (s .7) i)
+
+-- the sample of a row in which the tree lies is one of the tree's, if its pivot would count it
+module _ {E : Type 0} (rows : List (Row E)) (of-pivot : Pivot E → List (Sample E)) (at : ℕ) (row : Row E) (there : nth rows at ≡ Some row) (own : Among (sample-in row) (of-pivot (pivot-in row))) where
+  pub held-among : (fs : List ℕ) (xs : List (Sample E)) → Among at fs → Holds-samples rows fs xs → Among (sample-in row) xs
+  held-among [] xs a h = absurd a
+  held-among (i ∷ is) [] a h = absurd h
+  held-among (i ∷ is) (x ∷ xs) (inl e) h = inl (ap sample-in (same-row rows at row (h .0) there (ap (nth rows) e ∙ h .1)) ∙ h .2)
+  held-among (i ∷ is) (x ∷ xs) (inr a) h = inr (held-among is xs a (h .3))
+
+  mutual
+    pub row-among : (n : Node) (t : Tree E) (fs : List ℕ) → Among at fs → Shows rows n t fs → Among (sample-in row) (gathered of-pivot t)
+    row-among n (leaf xs) fs a s = held-among fs xs a (s .5)
+    row-among n (branch ps) fs a s = row-among-parts (s .0) 0 ps fs a (s .4)
+
+    pub row-among-parts : (b : Branch-record) (j : ℕ) (ps : Parts E) (fs : List ℕ) → Among at fs → Shows-parts rows b j ps fs → Among (sample-in row) (gathered-parts of-pivot ps)
+    row-among-parts b j none fs a s = absurd (subst (Among at) s a)
+    row-among-parts b j (part p col t rest) fs a s =
+        let x = sample-in row in
+        let i = getD (b .pivots) j 0 in
+        let g = gathered of-pivot t in
+        let r = gathered-parts of-pivot rest in
+        ⊎-elim
+        (λ e. among-left x (of-pivot p) (g ++ r) (subst (λ z. Among x (of-pivot z)) (ap pivot-in (same-row rows at row (s .0) there (ap (nth rows) e ∙ s .3)) ∙ s .4) own))
+        (λ u. ⊎-elim
+        (λ v. among-right x (of-pivot p) (g ++ r) (among-left x g r (row-among (s .0 .node) t (s .1) v (s .6))))
+        (λ v. among-right x (of-pivot p) (g ++ r) (among-right x g r (row-among-parts b (suc j) rest (s .2) v (s .7))))
+        (among-append at (s .1) (s .2) u))
+        (subst (Among at) (s .8) a)

@@ -23,47 +23,47 @@ use Rattle.gnat_theory.specs.Keeping.{Pruned-is-shrunk}
 use Rattle.gnat_theory.proofs.Gathering.{all-left, all-right}
 use Rattle.gnat_theory.proofs.Shuffling.{all-shuffle}
 
-all-among : {X : Type 0} (P : X → Type 0) (x : X) (xs : List X) → All P xs → Among x xs → P x
+pub all-among : {X : Type 0} (P : X → Type 0) (x : X) (xs : List X) → All P xs → Among x xs → P x
 all-among P x [] a m = absurd m
 all-among P x (y ∷ ys) a (inl e) = subst P (sym e) (a .0)
 all-among P x (y ∷ ys) a (inr m) = all-among P x ys (a .1) m
 
 module _ {X : Type 0} (x : X) where
-  among-left : (xs ys : List X) → Among x xs → Among x (xs ++ ys)
+  pub among-left : (xs ys : List X) → Among x xs → Among x (xs ++ ys)
   among-left [] ys m = absurd m
   among-left (y ∷ xs) ys (inl e) = inl e
   among-left (y ∷ xs) ys (inr m) = inr (among-left xs ys m)
 
-  among-right : (xs ys : List X) → Among x ys → Among x (xs ++ ys)
+  pub among-right : (xs ys : List X) → Among x ys → Among x (xs ++ ys)
   among-right [] ys m = m
   among-right (y ∷ xs) ys m = inr (among-right xs ys m)
 
-  among-append : (xs ys : List X) → Among x (xs ++ ys) → Among x xs ⊎ Among x ys
+  pub among-append : (xs ys : List X) → Among x (xs ++ ys) → Among x xs ⊎ Among x ys
   among-append [] ys m = inr m
   among-append (y ∷ xs) ys (inl e) = inl (inl e)
   among-append (y ∷ xs) ys (inr m) = ⊎-elim (λ k. inl (inr k)) inr (among-append xs ys m)
 
 module _ {E : Type 0} where
-  part-equal : (column : List Range) (p q : Pivot E) (t u : Tree E) (ps qs : Parts E) → p ≡ q → t ≡ u → ps ≡ qs → part p column t ps ≡ part q column u qs
+  pub part-equal : (column : List Range) (p q : Pivot E) (t u : Tree E) (ps qs : Parts E) → p ≡ q → t ≡ u → ps ≡ qs → part p column t ps ≡ part q column u qs
   part-equal column p q t u ps qs d e f = λ i. part (d i) column (e i) (f i)
 
   -- another number
-  abbrev Other : ℕ → Sample E → Type 0
+  abbrev pub Other : ℕ → Sample E → Type 0
   Other n x = x .number ≡ n → ⊥
 
-  apart-right : (xs ys : List (Sample E)) → Apart (xs ++ ys) → Apart ys
+  pub apart-right : (xs ys : List (Sample E)) → Apart (xs ++ ys) → Apart ys
   apart-right [] ys a = a
   apart-right (x ∷ xs) ys a = apart-right xs ys (a .1)
 
-  apart-left : (xs ys : List (Sample E)) → Apart (xs ++ ys) → Apart xs
+  pub apart-left : (xs ys : List (Sample E)) → Apart (xs ++ ys) → Apart xs
   apart-left [] ys a = tt
   apart-left (x ∷ xs) ys a = (all-left (λ y. x .number ≡ y .number → ⊥) xs ys (a .0), apart-left xs ys (a .1))
 
-  others-left : (s : Sample E) (xs ys : List (Sample E)) → Apart (xs ++ ys) → Among s ys → All (Other (s .number)) xs
+  pub others-left : (s : Sample E) (xs ys : List (Sample E)) → Apart (xs ++ ys) → Among s ys → All (Other (s .number)) xs
   others-left s [] ys a m = tt
   others-left s (x ∷ xs) ys a m = (all-among (λ y. x .number ≡ y .number → ⊥) s (xs ++ ys) (a .0) (among-right s xs ys m), others-left s xs ys (a .1) m)
 
-  others-right : (s : Sample E) (xs ys : List (Sample E)) → Apart (xs ++ ys) → Among s xs → All (Other (s .number)) ys
+  pub others-right : (s : Sample E) (xs ys : List (Sample E)) → Apart (xs ++ ys) → Among s xs → All (Other (s .number)) ys
   others-right s [] ys a m = absurd m
   others-right s (x ∷ xs) ys a (inl e) =
       all-weaker (λ y. x .number ≡ y .number → ⊥) (Other (s .number)) (λ y h i. h (ap (λ z. z .number) (sym e) ∙ sym i)) ys (all-right (λ y. x .number ≡ y .number → ⊥) xs ys (a .0))
@@ -87,11 +87,11 @@ module _ {E : Type 0} where
   rising-apart low high (x ∷ xs) r =
       (all-weaker (λ y. x .number < y .number) (λ y. x .number ≡ y .number → ⊥) (λ y l e. omega arith) xs (rising-above (x .number) high xs (r .2)), rising-apart (x .number) high xs (r .2))
 
-  without-none : (n : ℕ) (xs : List (Sample E)) → All (Other n) xs → without n xs ≡ xs
+  pub without-none : (n : ℕ) (xs : List (Sample E)) → All (Other n) xs → without n xs ≡ xs
   without-none n [] a = refl
   without-none n (x ∷ xs) a = cond-false (eqb (x .number) n) (without n xs) (x ∷ without n xs) (ne-eqb (x .number) n (a .0)) ∙ ap (λ z. x ∷ z) (without-none n xs (a .1))
 
-  marked-none : (n : ℕ) (p : Pivot E) → All (Other n) (if-standing p) → marked-at n p ≡ p
+  pub marked-none : (n : ℕ) (p : Pivot E) → All (Other n) (if-standing p) → marked-at n p ≡ p
   marked-none n p a =
       cond-both (eqb (p .number) n) (record { number = p .number; element = p .element; marked = true }) p (λ z. z ≡ p) (λ e. go (eqb-true (p .number) n e) (p .marked) refl) (λ e. refl)
     where
@@ -105,7 +105,7 @@ module _ {E : Type 0} where
     shrunk-none n (leaf xs) a = ap leaf (without-none n xs a)
     shrunk-none n (branch ps) a = ap branch (shrunk-parts-none n ps a)
 
-    shrunk-parts-none : (n : ℕ) (ps : Parts E) → All (Other n) (gathered-parts if-standing ps) → shrunk-parts n ps ≡ ps
+    pub shrunk-parts-none : (n : ℕ) (ps : Parts E) → All (Other n) (gathered-parts if-standing ps) → shrunk-parts n ps ≡ ps
     shrunk-parts-none n none a = refl
     shrunk-parts-none n (part p column t rest) a =
         let o = if-standing p in
