@@ -3,3 +3,4 @@ pub mod Adding
 pub mod Dropping
 pub mod Orders
 pub mod Rebuilding
+pub mod Filing

@@ -10,7 +10,7 @@ use Rattle.std.specs.Finite.{nth}
 use Rattle.std.specs.shelf.Lists.{All}
 use Rattle.std.specs.declared.option.Option.the-variants.{Some}
 use Rattle.std.proofs.shelf.Elements.{all-take, all-getD}
-use Rattle.std.proofs.shelf.Lists.{append-nil, length-take, length-take-le, length-map, take-all, take-append-drop, getD-take}
+use Rattle.std.proofs.shelf.Lists.{append-nil, length-take, length-take-le, length-map, take-all, take-append-drop, take-take, getD-take}
 use Rattle.hits.specs.Samples.{Sample, Rising}
 use Rattle.index.specs.Meaning.{Meaning}
 use Rattle.gnat_theory.specs.Tree.{Tree, Parts}
@@ -213,3 +213,23 @@ module _ {E : Type 0} (dist : E → E → ℕ) (g : Gnat E) (o : Gnat-sound dist
         lists = subst (λ k. Shuffle ℕ (f .lies) (take k (places (now (h .rows))))) (sym used) (subst (λ ps. Shuffle ℕ (f .lies) (take (g .standing) ps)) (sym (ap places rs ∙ new-places)) (subst (Shuffle ℕ (f .lies)) whole (f .same-rows)));
         files = subst (λ d. Files dist d (h .bucket) (standing-in h) new-tree) (sym dg) (subst (λ b. Files dist (g .degree) b (standing-in h) new-tree) (sym bk) (subst (λ xs. Files dist (g .degree) (g .bucket) xs new-tree) (sym stands) new-files));
       }
+
+-- a sound GNAT's standing samples may be filed anew
+pub record May-refile {E : Type 0} (g : Gnat E) : Type 0 where
+  pub settings : Settings (g .degree) (g .bucket)
+  pub fits : g .standing ≤ length (now (g .rows))
+  pub few : g .standing ≤ 1024
+  pub within : Within (listed g) (length (now (g .rows)))
+  pub apart : Distinct (listed g)
+
+pub may-refile : {E : Type 0} (dist : E → E → ℕ) (g : Gnat E) (o : Gnat-sound dist g) → May-refile g
+may-refile dist g o =
+    let ps = take (capacity-of g) (places (now (g .rows))) in
+    let cut : take (g .standing) ps ≡ listed g = take-take (g .standing) (capacity-of g) (places (now (g .rows))) (omega (arith, o .in-use)) in
+    record {
+      settings = record { two = o .two; eight = o .eight; room = o .room; most = o .most };
+      fits = in-rows dist g o;
+      few = omega (arith, o .in-use);
+      within = listed-within dist g o;
+      apart = subst Distinct cut (distinct-left (take (g .standing) ps) (drop (g .standing) ps) (subst Distinct (sym (take-append-drop (g .standing) ps)) (o .apart)));
+    }

@@ -1,3 +1,4 @@
+pub mod Changes
 pub mod Chosen
 pub mod Gnats
 pub mod Lawful

@@ -1,13 +1,17 @@
 // The GNAT as an index.
 ghost use mathlib.Core.Path.{_≡_};
-ghost use Prim.Native.Nat.{ℕ, min};
+ghost use Prim.Native.Nat.{ℕ, min, _+_, _<_};
 ghost use lib.ListN.{length};
 ghost use Rattle.index.specs.Meaning.{fresh};
 ghost use Rattle.gnat_theory.specs.Tree.Tree.{leaf};
 ghost use mathlib.Core.List.{[]};
 ghost use Rattle.gnat_order.specs.Order.{Listed};
 ghost use Rattle.gnat.specs.Gnats.{capacity-of, gnat-meaning, gnat-tree, Gnat-sound};
+ghost use Rattle.gnat.specs.Changes.{Rebuilt, Filed-new};
+use crate::listing::enlist;
+use crate::refile::refile;
 use crate::settings::Settings;
+use gnat_filing::filing::file;
 use gnat_order::find;
 use gnat_order::list_rows;
 use gnat_rows::EMPTY;
@@ -61,5 +65,36 @@ impl<'a, E: Metric> Gnat<'a, E> {
         ensures { λ r. ⌜ Listed (now (now (self .entry) .rows)) (now (self .entry) .standing) number r ⌝ }
     {
         find(self.rows, self.standing, number)
+    }
+
+    // Files all standing samples anew; the marked rows are then free.
+    fn rebuild(&mut self)
+        requires { ⌜ Gnat-sound dist (now self) ⌝ }
+        ensures { λ _. ⌜ Rebuilt dist (now (self .entry)) (now (self .exit)) ⌝ }
+    {
+        let standing = self.standing;
+        let degree = self.degree as usize;
+        let bucket = self.bucket as usize;
+        self.root = refile(self.rows, standing, degree, bucket);
+        self.marked = 0;
+    }
+
+    // Files an element under the next number, in the first free row.
+    fn file_new(&mut self, e: E)
+        requires sound { ⌜ Gnat-sound dist (now self) ⌝ }
+        requires room { ⌜ now self .standing + now self .marked < capacity-of (now self) ⌝ }
+        requires numbers { ⌜ now self .last < 65535 ⌝ }
+        ensures { λ _. ⌜ Filed-new dist (now (self .entry)) e (now (self .exit)) ⌝ }
+    {
+        let standing = self.standing;
+        let in_use = standing + self.marked;
+        let number = self.last + 1;
+        let root = self.root;
+        let degree = self.degree as usize;
+        let bucket = self.bucket as usize;
+        let at = enlist(self.rows, standing, in_use, number, e);
+        self.root = file(self.rows, root, at, degree, bucket, 1025);
+        self.standing = standing + 1;
+        self.last = number;
     }
 }

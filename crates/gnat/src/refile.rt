@@ -6,12 +6,20 @@ ghost use Rattle.gnat_order.specs.Order.{Within, places};
 ghost use Rattle.gnat_filing.specs.Filed.{Settings as Settings-hold};
 ghost use Rattle.gnat.specs.Refiling.{Refiled};
 use gnat_filing::filing::file;
-use gnat_rows::{EMPTY, Node, Row, place_in};
+use gnat_rows::EMPTY;
+use gnat_rows::Node;
+use gnat_rows::Row;
+use gnat_rows::place_in;
 use metric::Metric;
 
 // Files the samples of the first `standing` rows that are listed, in their order, into an empty leaf,
 // and returns the root.
-pub(crate) fn refile<E: Metric>(rows: &mut [Row<E>], standing: usize, degree: usize, bucket: usize) -> Node
+pub(crate) fn refile<E: Metric>(
+    rows: &mut [Row<E>],
+    standing: usize,
+    degree: usize,
+    bucket: usize,
+) -> Node
     requires settings { ⌜ Settings-hold degree bucket ⌝ }
     requires fits { ⌜ standing ≤ length (now rows) ⌝ }
     requires few { ⌜ standing ≤ 1024 ⌝ }

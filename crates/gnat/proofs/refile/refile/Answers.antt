@@ -27,4 +27,4 @@ loop-i-again g c =
     let at = next-place (g .E·Metric .dist) (c .args .degree) (c .args .bucket) (c .args .rows .now) (c .args .standing) (c .pre .settings) (c .pre .fits) (c .pre .few) (c .pre .within) (c .pre .apart) (c .loop-i .i) (omega (arith, c .loop-i-test .taken)) (c .loop-i .rows) (c .loop-i .root) (c .loop-i .inv) (c .place-in-at .result) (c .place-in-at .ensures .0) (c .place-in-at .ensures .1) (c .place-in-at .ensures .2) in
     let one : suc (c .loop-i .i) ≡ c .loop-i .i + 1 = omega arith in
     subst (λ k. Refiled (g .E·Metric .dist) (c .args .degree) (c .args .bucket) (c .args .rows .now) (take (c .args .standing) (places (c .args .rows .now))) k (c .file-root .last .rows) (c .file-root .result)) one
-      (has-filed (g .E·Metric .dist) (c .args .degree) (c .args .bucket) (c .args .rows .now) (c .args .standing) (c .pre .settings) (c .pre .fits) (c .pre .few) (c .pre .within) (c .pre .apart) (c .loop-i .i) (omega (arith, c .loop-i-test .taken)) (c .loop-i .rows) (c .loop-i .root) (c .loop-i .inv) (c .place-in-at .result) at (c .file-root .last .rows) (c .file-root .result) (c .file-root .ensures) (search (needs, c .file-root .kept)))
+    (has-filed (g .E·Metric .dist) (c .args .degree) (c .args .bucket) (c .args .rows .now) (c .args .standing) (c .pre .settings) (c .pre .fits) (c .pre .few) (c .pre .within) (c .pre .apart) (c .loop-i .i) (omega (arith, c .loop-i-test .taken)) (c .loop-i .rows) (c .loop-i .root) (c .loop-i .inv) (c .place-in-at .result) at (c .file-root .last .rows) (c .file-root .result) (c .file-root .ensures) (search (needs, c .file-root .kept)))
