@@ -7,3 +7,4 @@ pub mod Clearing
 pub mod Filling
 pub mod Assembling
 pub mod Shrinking
+pub mod Depths
