@@ -25,6 +25,7 @@ use Rattle.gnat_theory.specs.Shapes.{Branching, Branching-parts}
 use Rattle.gnat_theory.specs.Shuffles.{Shuffle, Apart}
 use Rattle.gnat_theory.specs.Shuffles.Shuffle.{after, swapped, in-turn}
 use Rattle.gnat_theory.proofs.Pruning.{all-among, among-left, among-right, among-append, part-equal, Other, apart-left, apart-right, others-left, others-right, without-none, marked-none, shrunk-none, shrunk-parts-none}
+use Rattle.gnat_theory.proofs.Sublists.{among-sub, apart-sub, one-side, pivot-sub, standing-sub, standing-parts-sub}
 use Rattle.gnat_theory.proofs.Shuffling.{all-shuffle, same-order, shuffle-back, shuffle-before, shuffle-front}
 use Rattle.gnat_rows.specs.declared.Branch.{Branch as Branch-record}
 use Rattle.gnat_rows.specs.declared.Leaf.{Leaf as Leaf-record}
@@ -92,14 +93,14 @@ module _ {E : Type 0} (rows : List (Row E)) (at : ℕ) (row : Row E) (there : nt
       among-held : (is : List ℕ) (xs : List (Sample E)) → Among at is → Holds-samples rows is xs → Among (sample-in row) xs
       among-held is xs m h = held-among rows always at row there (inl refl) is xs m h
 
-  pub leaf-dropped : (n : Node) (l l′ : Leaf-record) (t : Tree E) (fs : List ℕ) → n ≡ node.Leaf l → Shows rows n t fs → Among at fs → Distinct fs → Apart (standing t) → Shortened l l′ at → Drops rows rows (node.Leaf l′) true at (shrunk (row .number) t) fs
+  pub leaf-dropped : (n : Node) (l l′ : Leaf-record) (t : Tree E) (fs : List ℕ) → n ≡ node.Leaf l → Shows rows n t fs → Among at fs → Distinct fs → Apart (members t) → Shortened l l′ at → Drops rows rows (node.Leaf l′) true at (shrunk (row .number) t) fs
   leaf-dropped n l l′ t fs e s m d a short =
       let v = shows-leaf rows n l t fs e s in
       let xs = v .0 in
       subst (λ z. Drops rows rows (node.Leaf l′) true at (shrunk (row .number) z) fs) (sym (v .1))
       (record {
         lies = without-row at fs;
-        shows = (l′, refl, short .thirty-two, omega (arith, short .count, v .3), short .rows ∙ ap (without-row at) (v .4), holds-without fs xs m d (subst (λ z. Apart (standing z)) (v .1) a) (v .5));
+        shows = (l′, refl, short .thirty-two, omega (arith, short .count, v .3), short .rows ∙ ap (without-row at) (v .4), holds-without fs xs m d (subst (λ z. Apart (members z)) (v .1) a) (v .5));
         same-rows = without-front at fs m d;
         only = only-none rows fs;
       })
@@ -170,6 +171,64 @@ module _ {E : Type 0} (P : Pivot E → Tree E → Type 0) where
       subst (λ z. P z t) (ap pivot-in (same-row rows (getD (b .pivots) k 0) row (s .0) (ap (λ z. nth rows (getD (b .pivots) z 0)) (sym q) ∙ there) (s .3)) ∙ s .4) (f t)
   at-pivot rows b row k (suc n) m (part p col t rest) fs e l there f s = at-pivot rows b row (suc k) n m rest (s .2) (omega arith) (omega arith) there f (s .7)
 
+module _ {E : Type 0} (s : Sample E) where
+  child-among : (n : ℕ) (ps : Parts E) (t : Tree E) → Child-is n ps t → Among s (members t) → Among s (gathered-parts always ps)
+  child-among n none t i m = absurd i
+  child-among zero (part p col u rest) t i m = inr (among-left s (members u) (gathered-parts always rest) (subst (λ z. Among s (members z)) (sym i) m))
+  child-among (suc n) (part p col u rest) t i m = inr (among-right s (members u) (gathered-parts always rest) (child-among n rest t i m))
+
+  -- a sample that stands in a branch and has its row below one child stands there
+  stands-below : (n : ℕ) (ps : Parts E) (t : Tree E) → Child-is n ps t → Apart (gathered-parts always ps) → Among s (gathered-parts if-standing ps) → Among s (members t) → Among s (standing t)
+  stands-below n none t i a m below = absurd i
+  stands-below zero (part p col u rest) t i a m below =
+      let below′ : Among s (members u) = subst (λ z. Among s (members z)) (sym i) below in
+      ⊎-elim
+      (λ k. absurd (one-side s (always p) (members u ++ gathered-parts always rest) a (among-sub s (if-standing p) (always p) (pivot-sub p) k) (among-left s (members u) (gathered-parts always rest) below′)))
+      (λ k. ⊎-elim (λ here. subst (λ z. Among s (standing z)) i here)
+      (λ later. absurd (one-side s (members u) (gathered-parts always rest) (a .1) below′ (among-sub s (gathered-parts if-standing rest) (gathered-parts always rest) (standing-parts-sub rest) later)))
+      (among-append s (standing u) (gathered-parts if-standing rest) k))
+      (among-append s (if-standing p) (standing u ++ gathered-parts if-standing rest) m)
+  stands-below (suc n) (part p col u rest) t i a m below =
+      let there = child-among n rest t i below in
+      ⊎-elim
+      (λ k. absurd (one-side s (always p) (members u ++ gathered-parts always rest) a (among-sub s (if-standing p) (always p) (pivot-sub p) k) (among-right s (members u) (gathered-parts always rest) there)))
+      (λ k. ⊎-elim (λ here. absurd (one-side s (members u) (gathered-parts always rest) (a .1) (among-sub s (standing u) (members u) (standing-sub u) here) there))
+      (λ later. stands-below n rest t i (apart-right (members u) (gathered-parts always rest) (a .1)) later below)
+      (among-append s (standing u) (gathered-parts if-standing rest) k))
+      (among-append s (if-standing p) (standing u ++ gathered-parts if-standing rest) m)
+
+module _ {E : Type 0} (rows : List (Row E)) (b : Branch-record) (row : Row E) where
+  pivot-shown : (k m : ℕ) (p : Pivot E) (r : Row E) → m ≡ k → nth rows (getD (b .pivots) m 0) ≡ Some row → nth rows (getD (b .pivots) k 0) ≡ Some r → pivot-in r ≡ p → pivot-in row ≡ p
+  pivot-shown k m p r q there here e = ap pivot-in (same-row rows (getD (b .pivots) k 0) row r (ap (λ z. nth rows (getD (b .pivots) z 0)) (sym q) ∙ there) here) ∙ e
+
+  pivot-among : (k n m : ℕ) (ps : Parts E) (fs : List ℕ) → m ≡ k + n → n < length (pivots ps) → nth rows (getD (b .pivots) m 0) ≡ Some row → Shows-parts rows b k ps fs → Among (sample-in row) (gathered-parts always ps)
+  pivot-among k n m none fs e l there s = absurd (omega arith)
+  pivot-among k zero m (part p col t rest) fs e l there s = inl (ap sample-of (pivot-shown k m p (s .0) (omega arith) there (s .3) (s .4)))
+  pivot-among k (suc n) m (part p col t rest) fs e l there s = inr (among-right (sample-in row) (members t) (gathered-parts always rest) (pivot-among (suc k) n m rest (s .2) (omega arith) (omega arith) there (s .7)))
+
+  -- a sample that stands in a branch and whose row is a pivot's is not marked
+  stands-at : (k n m : ℕ) (ps : Parts E) (fs : List ℕ) → m ≡ k + n → n < length (pivots ps) → nth rows (getD (b .pivots) m 0) ≡ Some row → Shows-parts rows b k ps fs → Apart (gathered-parts always ps) → Among (sample-in row) (gathered-parts if-standing ps) → Among (sample-in row) (if-standing (pivot-in row))
+  stands-at k n m none fs e l there s a i = absurd (omega arith)
+  stands-at k zero m (part p col t rest) fs e l there s a i =
+      let x = sample-in row in
+      let here : pivot-in row ≡ p = pivot-shown k m p (s .0) (omega arith) there (s .3) (s .4) in
+      let mine : Among x (always p) = inl (ap sample-of here) in
+      ⊎-elim (λ z. subst (λ q. Among x (if-standing q)) (sym here) z)
+      (λ z. absurd (one-side x (always p) (members t ++ gathered-parts always rest) a mine
+      (⊎-elim (λ u. among-left x (members t) (gathered-parts always rest) (among-sub x (standing t) (members t) (standing-sub t) u))
+      (λ u. among-right x (members t) (gathered-parts always rest) (among-sub x (gathered-parts if-standing rest) (gathered-parts always rest) (standing-parts-sub rest) u))
+      (among-append x (standing t) (gathered-parts if-standing rest) z))))
+      (among-append x (if-standing p) (standing t ++ gathered-parts if-standing rest) i)
+  stands-at k (suc n) m (part p col t rest) fs e l there s a i =
+      let x = sample-in row in
+      let later = pivot-among (suc k) n m rest (s .2) (omega arith) (omega arith) there (s .7) in
+      ⊎-elim
+      (λ z. absurd (one-side x (always p) (members t ++ gathered-parts always rest) a (among-sub x (if-standing p) (always p) (pivot-sub p) z) (among-right x (members t) (gathered-parts always rest) later)))
+      (λ z. ⊎-elim (λ u. absurd (one-side x (members t) (gathered-parts always rest) (a .1) (among-sub x (standing t) (members t) (standing-sub t) u) later))
+      (λ u. stands-at (suc k) n m rest (s .2) (omega arith) (omega arith) there (s .7) (apart-right (members t) (gathered-parts always rest) (a .1)) u)
+      (among-append x (standing t) (gathered-parts if-standing rest) z))
+      (among-append x (if-standing p) (standing t ++ gathered-parts if-standing rest) i)
+
 module _ {E : Type 0} (dist : E → E → ℕ) (all : List (Sample E)) where
   nearest-here : (k n : ℕ) (ps : Parts E) (t : Tree E) → Child-is n ps t → Throughout-parts (Own-nearest dist) all k ps → All (λ s. nearest (distances dist all s) ≡ k + n) (members t) × Placed dist t
   nearest-here k n none t i h = absurd i
@@ -190,6 +249,8 @@ module _ {E : Type 0} (dist : E → E → ℕ) (degree left : ℕ) (rows : List 
     pub branching : Branching-parts degree parts
     pub placed : Throughout-parts (Own-nearest dist) (pivots parts) 0 parts
     pub numbers : Apart (gathered-parts if-standing parts)
+    pub all-numbers : Apart (gathered-parts always parts)
+    pub stands : Among (sample-in row) (gathered-parts if-standing parts)
 
   pub is-drop-branch : (b : Branch-record) → n ≡ node.Branch b → Is-drop-branch b
   is-drop-branch b e =
@@ -203,11 +264,10 @@ module _ {E : Type 0} (dist : E → E → ℕ) (degree left : ℕ) (rows : List 
         deep = subst (λ z. depth z < left) (s .1) (d .deep);
         branching = branching .1;
         placed = subst (Placed dist) (s .1) (d .placed);
-        numbers = subst (λ z. Apart (standing z)) (s .1) (d .numbers);
+        numbers = apart-sub (gathered-parts if-standing (s .0)) (gathered-parts always (s .0)) (standing-parts-sub (s .0)) (subst (λ z. Apart (members z)) (s .1) (d .numbers));
+        all-numbers = subst (λ z. Apart (members z)) (s .1) (d .numbers);
+        stands = subst (λ z. Among (sample-in row) (standing z)) (s .1) (d .stands);
       }
-
-  own-standing : Among (sample-in row) (if-standing (pivot-in row))
-  own-standing = subst (λ z. Among (sample-in row) (cond z [] (sample-in row ∷ []))) (sym (d .unmarked)) (inl refl)
 
   module _ (b : Branch-record) (i : Is-drop-branch b) where
     -- a pivot is marked
@@ -231,6 +291,7 @@ module _ {E : Type 0} (dist : E → E → ℕ) (degree left : ℕ) (rows : List 
         frame rows rows′ (row .node) (c .tree) (c .below) (kept (c .below) (all-left (λ z. pk ≡ z → ⊥) (c .below) (c .before ++ c .behind) (apart .0))) (subst (λ z. Shows rows (z .node) (c .tree) (c .below)) same (c .shows)) in
         let changed = c .put-back rows′ b (marked-at (row .number)) (λ col. col) (λ u. u) (f row) (c .below) (record { pivots = refl; here = refl; others = λ z q. refl }) there′ marks below′
         (kept (c .before) (all-left (λ z. pk ≡ z → ⊥) (c .before) (c .behind) rest)) (kept (c .behind) (all-right (λ z. pk ≡ z → ⊥) (c .before) (c .behind) rest)) in
+        let own-standing = stands-at rows b row 0 k k ps fs (omega arith) (omega (arith, i .ready .count)) (ap (nth rows) here ∙ d .there) (i .ready .parts) (i .all-numbers) (i .stands) in
         let P = Has-sample s (marked-at (row .number)) (λ u. u) in
         let has = at-pivot P rows b row 0 k k ps fs (omega arith) (omega (arith, i .ready .count)) (ap (nth rows) here ∙ d .there)
         (λ u. (among-left s (if-standing (pivot-in row)) (standing u) own-standing, λ a. (refl, sym (shrunk-none (row .number) u (others-right s (if-standing (pivot-in row)) (standing u) a own-standing))))) (i .ready .parts) in
@@ -258,6 +319,9 @@ module _ {E : Type 0} (dist : E → E → ℕ) (degree left : ℕ) (rows : List 
         subst (λ z. (c : Child rows b 0 z j ps fs) × Among at (c .below)) k (subst (λ z. (c : Child rows b 0 (w .0) z ps fs) × Among at (c .below)) m (c, w .5))
 
     module _ (j : ℕ) (c : Child rows b 0 j j (i .parts) fs) (mine : Among at (c .below)) where
+      below-stands : Among (sample-in row) (standing (c .tree))
+      below-stands = stands-below (sample-in row) j (i .parts) (c .tree) (c .is-child) (i .all-numbers) (i .stands) (row-among rows always at row (d .there) (inl refl) (c .row .node) (c .tree) (c .below) mine (c .shows))
+
       pub child-droppable : Droppable dist degree (left - 1) rows (c .row .node) at (c .tree) (c .below) row
       child-droppable =
           let ps = i .parts in
@@ -268,13 +332,13 @@ module _ {E : Type 0} (dist : E → E → ℕ) (degree left : ℕ) (rows : List 
             apart = distinct-left (c .below) (c .before ++ c .behind) (apart .1);
             there = d .there;
             lies = mine;
-            unmarked = d .unmarked;
+            stands = below-stands;
             deep = of-child (λ u. depth u < left - 1) (λ qs. deepest qs < left - 1) (λ p col u rest h. (omega arith, omega arith)) j ps (c .tree) (c .is-child) (omega (arith, i .deep));
             some = d .some;
             branching = of-child (Branching degree) (Branching-parts degree) (λ p col u rest h. h) j ps (c .tree) (c .is-child) (i .branching);
             placed = nearest-here dist (pivots ps) 0 j ps (c .tree) (c .is-child) (i .placed) .1;
-            numbers = of-child (λ u. Apart (standing u)) (λ qs. Apart (gathered-parts if-standing qs))
-                (λ p col u rest h. let q = apart-right (if-standing p) (standing u ++ gathered-parts if-standing rest) h in (apart-left (standing u) (gathered-parts if-standing rest) q, apart-right (standing u) (gathered-parts if-standing rest) q)) j ps (c .tree) (c .is-child) (i .numbers);
+            numbers = of-child (λ u. Apart (members u)) (λ qs. Apart (gathered-parts always qs))
+                (λ p col u rest h. (apart-left (members u) (gathered-parts always rest) (h .1), apart-right (members u) (gathered-parts always rest) (h .1))) j ps (c .tree) (c .is-child) (i .all-numbers);
           }
 
       -- dropped below the child, which is put back
@@ -300,7 +364,7 @@ module _ {E : Type 0} (dist : E → E → ℕ) (degree left : ℕ) (rows : List 
           let g = shrunk (row .number) in
           let changed = c .put-back rows₂ b (λ p. p) (λ col. col) g (f (c .row)) (given .lies) (record { pivots = refl; here = refl; others = λ z q. refl }) there₂ refl below′
           (all-left (Same rows rows₂) (c .before) (c .behind) same-rest) (all-right (Same rows rows₂) (c .before) (c .behind) same-rest) in
-          let standing-here = row-among rows if-standing at row (d .there) own-standing (c .row .node) (c .tree) (c .below) mine (c .shows) in
+          let standing-here = below-stands in
           let P = Has-sample s (λ p. p) g in
           let has = at-child P j ps (c .tree) (c .is-child) (λ p. (among-right s (if-standing p) (standing (c .tree)) standing-here, λ a. (sym (marked-none (row .number) p (others-left s (if-standing p) (standing (c .tree)) a standing-here)), refl))) in
           let equal = only-part s (λ p. p) g j ps has (i .numbers) in

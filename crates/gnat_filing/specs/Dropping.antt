@@ -9,7 +9,7 @@ use Rattle.std.specs.Finite.{nth}
 use Rattle.std.specs.shelf.Lists.{kept-by}
 use Rattle.std.specs.declared.option.Option.the-variants.{Some}
 use Rattle.hits.specs.Samples.{Among}
-use Rattle.gnat_theory.specs.Tree.{Tree, standing}
+use Rattle.gnat_theory.specs.Tree.{Tree, standing, members}
 use Rattle.gnat_theory.specs.Dropping.{shrunk}
 use Rattle.gnat_theory.specs.Ranges.{Placed}
 use Rattle.gnat_theory.specs.Shapes.{Branching}
@@ -18,7 +18,7 @@ use Rattle.gnat_rows.specs.declared.Branch.{Branch}
 use Rattle.gnat_rows.specs.declared.Leaf.{Leaf}
 use Rattle.gnat_rows.specs.declared.Node.{Node}
 use Rattle.gnat_rows.specs.declared.Row.{Row}
-use Rattle.gnat_rows.specs.Shows.{held, Shows}
+use Rattle.gnat_rows.specs.Shows.{sample-in, held, Shows}
 use Rattle.gnat_rows.specs.Lying.{Distinct, Only-in}
 use Rattle.gnat_filing.specs.Filed.{depth}
 
@@ -44,12 +44,12 @@ module _ {E : Type 0} where
     pub apart : Distinct fs
     pub there : nth rows at ≡ Some row
     pub lies : Among at fs
-    pub unmarked : row .marked ≡ false
+    pub stands : Among (sample-in row) (standing t)
     pub deep : depth t < left
     pub some : 1 ≤ degree
     pub branching : Branching degree t
     pub placed : Placed dist t
-    pub numbers : Apart (standing t)
+    pub numbers : Apart (members t)
 
   abbrev pub Some-droppable : (E → E → ℕ) → ℕ → List (Row E) → Node → ℕ → Type 0
   Some-droppable dist left rows node at = (degree : ℕ) × (t : Tree E) × (fs : List ℕ) × (row : Row E) × Droppable dist degree left rows node at t fs row

@@ -16,3 +16,4 @@ pub mod Theorems
 pub mod Reaching
 pub mod Pruning
 pub mod Steps
+pub mod Sublists
