@@ -21,6 +21,7 @@ use Rattle.gnat_theory.specs.Keeping.{Files}
 use Rattle.gnat_theory.specs.Shuffles.{Shuffle}
 use Rattle.gnat_theory.specs.Shuffles.Shuffle.{after, in-turn}
 use Rattle.gnat_theory.proofs.Shuffling.{same-order, shuffle-back, shuffle-behind, shuffle-front, all-shuffle, length-shuffle}
+use Rattle.gnat_theory.proofs.Pruning.{apart-shuffle}
 use Rattle.gnat_theory.proofs.Theorems.{keeps-tree, rows-counted}
 use Rattle.gnat_rows.specs.declared.Node.{Node}
 use Rattle.gnat_rows.specs.declared.Row.{Row}
@@ -155,6 +156,9 @@ module _ {E : Type 0} (dist : E → E → ℕ) (g : Gnat E) (o : Gnat-sound dist
       grown-files : Files dist (g .degree) (g .bucket) (standing-in g ++ (record { number = number; element = e } ∷ [])) grown-tree
       grown-files = keeps-tree dist (g .degree) (g .bucket) (omega (arith, o .two)) (o .room) .by-filing (standing-in g) (record { number = number; element = e }) (o .tree) (o .files) .files
 
+      grown-rows : Shuffle (Sample E) (members grown-tree) (record { number = number; element = e } ∷ members (o .tree))
+      grown-rows = keeps-tree dist (g .degree) (g .bucket) (omega (arith, o .two)) (o .room) .by-filing (standing-in g) (record { number = number; element = e }) (o .tree) (o .files) .rows
+
       rows-in-tree : length (o .lies) ≡ g .standing + g .marked
       rows-in-tree = length-shuffle _ _ (o .lists) ∙ length-take-le (g .standing + g .marked) (places (now (g .rows))) (omega (arith, long))
 
@@ -214,4 +218,6 @@ module _ {E : Type 0} (dist : E → E → ℕ) (g : Gnat E) (o : Gnat-sound dist
             shows = subst (λ n. Shows (now (h .rows)) n grown-tree lies) (sym rt) (subst (λ z. Shows z root grown-tree lies) (sym rs) shows);
             lists = subst (λ k. Shuffle ℕ lies (take k (places (now (h .rows))))) (sym used) (subst (λ z. Shuffle ℕ lies (take (suc (s + m)) (places z))) (sym rs) lists-more);
             files = subst (λ d. Files dist d (h .bucket) (standing-in h) grown-tree) (sym dg) (subst (λ b. Files dist (g .degree) b (standing-in h) grown-tree) (sym bk) (subst (λ xs. Files dist (g .degree) (g .bucket) xs grown-tree) (sym stands) grown-files));
+            numbers = apart-shuffle _ _ (shuffle-back _ _ grown-rows) (all-weaker (λ x. x .number ≤ g .last) (λ x. number ≡ x .number → ⊥) (λ x low same. omega arith) (members (o .tree)) (o .given), o .numbers);
+            given = all-shuffle (λ x. x .number ≤ h .last) _ _ (shuffle-back _ _ grown-rows) (omega arith, all-weaker (λ x. x .number ≤ g .last) (λ x. x .number ≤ h .last) (λ x low. omega arith) (members (o .tree)) (o .given));
           }

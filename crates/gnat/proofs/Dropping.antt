@@ -12,12 +12,14 @@ use Rattle.std.specs.shelf.Lists.{All}
 use Rattle.std.specs.declared.option.Option.the-variants.{Some}
 use Rattle.hits.specs.Samples.{Sample, Rising}
 use denote.Ref.{now}
-use Rattle.std.proofs.shelf.Elements.{all-append, all-take, all-drop}
+use Rattle.std.proofs.shelf.Elements.{all-append, all-take, all-drop, all-weaker}
 use Rattle.std.proofs.shelf.Lists.{length-map, length-take, length-take-le, getD-take}
 use Rattle.index.specs.Meaning.{Meaning, without, dropped}
 use Rattle.index.proofs.Standing.{without-below, rising-wider, rising-without}
+use Rattle.gnat_theory.specs.Tree.{members}
 use Rattle.gnat_theory.specs.Dropping.{shrunk}
 use Rattle.gnat_theory.specs.Keeping.{Files}
+use Rattle.gnat_theory.proofs.Sublists.{apart-sub, all-sub, shrunk-sub}
 use Rattle.gnat_theory.proofs.Theorems.{keeps-tree}
 use Rattle.gnat_rows.specs.declared.Node.{Node}
 use Rattle.gnat_rows.proofs.Apart.{distinct-shuffle}
@@ -178,4 +180,6 @@ module _ {E : Type 0} (dist : E → E → ℕ) (g : Gnat E) (o : Gnat-sound dist
         shows = subst (λ x. Shows (now (h .rows)) x (shrunk n (o .tree)) lies) (sym rt) (subst (λ z. Shows z root (shrunk n (o .tree)) lies) (sym rs) new-shows);
         lists = subst (λ k. Shuffle ℕ lies (take k (places (now (h .rows))))) (sym used) (subst (λ ps. Shuffle ℕ lies (take ((g .standing - 1) + marked) ps)) (sym (ap places rs ∙ new-places)) lists);
         files = subst (λ d. Files dist d (h .bucket) (standing-in h) (shrunk n (o .tree))) (sym dg) (subst (λ b. Files dist (g .degree) b (standing-in h) (shrunk n (o .tree))) (sym bk) (subst (λ xs. Files dist (g .degree) (g .bucket) xs (shrunk n (o .tree))) (sym stands) shrunk-files));
+        numbers = apart-sub _ _ (shrunk-sub n (o .tree)) (o .numbers);
+        given = all-weaker (λ x. x .number ≤ g .last) (λ x. x .number ≤ h .last) (λ x low. omega arith) (members (shrunk n (o .tree))) (all-sub (λ x. x .number ≤ g .last) _ _ (shrunk-sub n (o .tree)) (o .given));
       }

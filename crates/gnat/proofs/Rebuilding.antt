@@ -13,7 +13,7 @@ use Rattle.std.proofs.shelf.Elements.{all-take, all-getD}
 use Rattle.std.proofs.shelf.Lists.{append-nil, length-take, length-take-le, length-map, take-all, take-append-drop, take-take, getD-take}
 use Rattle.hits.specs.Samples.{Sample, Rising}
 use Rattle.index.specs.Meaning.{Meaning}
-use Rattle.gnat_theory.specs.Tree.{Tree, Parts}
+use Rattle.gnat_theory.specs.Tree.{Tree, Parts, members}
 use Rattle.gnat_theory.specs.Tree.Tree.{leaf, branch}
 use Rattle.gnat_theory.specs.Tree.Parts.{none, part}
 use Rattle.gnat_theory.specs.Filing.{filed, filed-all}
@@ -23,6 +23,7 @@ use Rattle.gnat_theory.specs.Keeping.{Files}
 use Rattle.gnat_theory.specs.Shuffles.{Shuffle}
 use Rattle.gnat_theory.specs.Shuffles.Shuffle.{nothing, after, in-turn}
 use Rattle.gnat_theory.proofs.Shuffling.{shuffle-back, shuffle-front, all-shuffle, length-shuffle}
+use Rattle.gnat_theory.proofs.Pruning.{apart-shuffle, rising-apart}
 use Rattle.gnat_theory.proofs.Theorems.{keeps-tree}
 use Rattle.gnat_rows.specs.declared.Node.{Node}
 use Rattle.gnat_rows.specs.declared.Row.{Row}
@@ -153,6 +154,10 @@ module _ {E : Type 0} (dist : E → E → ℕ) (degree bucket : ℕ) (rows : Lis
       let l = subst (λ i. Files-in dist degree bucket 1025 new later root after-it i) same files _ (f .lies) (r .0) next-ready (r .1) in
       refiled-more dist degree bucket rows order within j (omega (arith, all-listed)) new later root after-it f (r .0) (r .1) (l .lies) (l .shows) (l .same-rows) (l .only) as-long
 
+rising-at-most : {E : Type 0} (most low high : ℕ) (xs : List (Sample E)) → high ≤ most → Rising low high xs → All (λ x. x .number ≤ most) xs
+rising-at-most most low high [] l r = tt
+rising-at-most most low high (x ∷ xs) l r = (omega (arith, r .1), rising-at-most most (x .number) high xs l (r .2))
+
 -- all that stand are filed anew: the marked rows are free
 module _ {E : Type 0} (dist : E → E → ℕ) (g : Gnat E) (o : Gnat-sound dist g) (new : List (Row E)) (root : Node) (f : Refiled dist (g .degree) (g .bucket) (now (g .rows)) (listed g) (g .standing) new root) where
   long : length (places (now (g .rows))) ≡ length (now (g .rows))
@@ -181,6 +186,9 @@ module _ {E : Type 0} (dist : E → E → ℕ) (g : Gnat E) (o : Gnat-sound dist
 
   new-files : Files dist (g .degree) (g .bucket) (standing-in g) new-tree
   new-files = keeps-tree dist (g .degree) (g .bucket) (omega (arith, o .two)) (o .room) .by-rebuilding (standing-in g) .files
+
+  new-rows : Shuffle (Sample E) (members new-tree) (standing-in g)
+  new-rows = keeps-tree dist (g .degree) (g .bucket) (omega (arith, o .two)) (o .room) .by-rebuilding (standing-in g) .rows
 
   few : length (f .lies) ≤ 1024
   few = omega (arith, length-shuffle _ _ (f .same-rows), ap length whole, length-take (g .standing) (places (now (g .rows))), o .in-use)
@@ -212,6 +220,8 @@ module _ {E : Type 0} (dist : E → E → ℕ) (g : Gnat E) (o : Gnat-sound dist
         shows = subst (λ n. Shows (now (h .rows)) n new-tree (f .lies)) (sym rt) (subst (λ z. Shows z root new-tree (f .lies)) (sym rs) new-shows);
         lists = subst (λ k. Shuffle ℕ (f .lies) (take k (places (now (h .rows))))) (sym used) (subst (λ ps. Shuffle ℕ (f .lies) (take (g .standing) ps)) (sym (ap places rs ∙ new-places)) (subst (Shuffle ℕ (f .lies)) whole (f .same-rows)));
         files = subst (λ d. Files dist d (h .bucket) (standing-in h) new-tree) (sym dg) (subst (λ b. Files dist (g .degree) b (standing-in h) new-tree) (sym bk) (subst (λ xs. Files dist (g .degree) (g .bucket) xs new-tree) (sym stands) new-files));
+        numbers = apart-shuffle _ _ (shuffle-back _ _ new-rows) (rising-apart 0 (g .last) (standing-in g) (o .rising));
+        given = all-shuffle (λ x. x .number ≤ h .last) _ _ (shuffle-back _ _ new-rows) (rising-at-most (h .last) 0 (g .last) (standing-in g) (omega arith) (o .rising));
       }
 
 -- a sound GNAT's standing samples may be filed anew

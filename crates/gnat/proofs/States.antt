@@ -61,4 +61,6 @@ module _ {E : Type 0} (dist : E → E → ℕ) (rows new : List (Row E)) (count 
         shows = (record { count = 0; rows = replicate 32 0 }, root, refl, omega arith, refl, tt);
         lists = subst (λ k. Shuffle ℕ [] (take k (places (now (g .rows))))) (sym none) nothing;
         files = subst (λ xs. Files dist (g .degree) (g .bucket) xs (leaf [])) (sym nobody) (keeps-tree dist (g .degree) (g .bucket) (omega arith) room .at-first);
+        numbers = tt;
+        given = tt;
       }

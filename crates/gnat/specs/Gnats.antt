@@ -3,11 +3,12 @@ use mathlib.Core.List.{List, []}
 use Prim.Native.Nat.{ℕ, _+_, _≤_, min}
 use lib.ListN.{length, take}
 use denote.Ref.{now}
+use Rattle.std.specs.shelf.Lists.{All}
 use Rattle.hits.specs.Samples.{Sample, Rising}
 use Rattle.index.specs.Meaning.{Meaning}
-use Rattle.gnat_theory.specs.Tree.{Tree}
+use Rattle.gnat_theory.specs.Tree.{Tree, members}
 use Rattle.gnat_theory.specs.Keeping.{Files}
-use Rattle.gnat_theory.specs.Shuffles.{Shuffle}
+use Rattle.gnat_theory.specs.Shuffles.{Shuffle, Apart}
 use Rattle.gnat_rows.specs.Lying.{Distinct}
 use Rattle.gnat_rows.specs.Shows.{Shows}
 use Rattle.gnat_rows.specs.Trees.{samples-at, tree-of}
@@ -51,3 +52,6 @@ module _ {E : Type 0} where
       pub shows : Shows (now (g .rows)) (g .root) tree lies
       pub lists : Shuffle ℕ lies (take (g .standing + g .marked) (places (now (g .rows))))
       pub files : Files dist (g .degree) (g .bucket) (standing-in g) tree
+      -- its numbers, those of marked samples too, are apart, and none is to come
+      pub numbers : Apart (members tree)
+      pub given : All (λ s. s .number ≤ g .last) (members tree)
