@@ -67,8 +67,10 @@ module _ (S : ℕ → Type 0) (T : ℕ → ℕ → ℕ → Type 0) (S′ : ℕ �
     where
       sn : S n
       sn = joins-start S T (m .ends) n i (x .joined .numbers) (x .joined .long) (x .joined .joins)
+
       si : S i
       si = joins-end S T (m .ends) n i (x .joined .numbers) (x .joined .long) (x .joined .joins)
+
       least : (j : ℕ) → Joined S′ T′ (m .to n) j → m .to i ≤ j
       least j y =
           let sj = joins-end S′ T′ (m .ends′) (m .to n) j (y .numbers) (y .long) (y .joins) in
@@ -95,8 +97,10 @@ module _ (S : ℕ → Type 0) (T : ℕ → ℕ → ℕ → Type 0) (S′ : ℕ �
     where
       sa : S a
       sa = joins-start S T (m .ends) a b ns l (r .joins)
+
       sb : S b
       sb = joins-end S T (m .ends) a b ns l (r .joins)
+
       best : (os : List ℕ) (t : ℕ) → Joins S′ T′ (m .to a) (m .to b) os t → Preferred l (map (m .to) ns) t os
       best os t j = preferred-moved l t ns os (chain-all S T (m .ends) ns l (r .joins .chain)) (chain-all S′ T′ (m .ends′) os t (j .chain)) (r .best (map (m .fro) os) t (joins-fro a b sa sb os t j))
 
@@ -111,10 +115,18 @@ pub record Same (S : ℕ → Type 0) (T : ℕ → ℕ → ℕ → Type 0) (S′ 
 module _ (S : ℕ → Type 0) (T : ℕ → ℕ → ℕ → Type 0) (S′ : ℕ → Type 0) (T′ : ℕ → ℕ → ℕ → Type 0) (s : Same S T S′ T′) where
   abbrev renames-same : Renames S T S′ T′
   renames-same = record {
-    to = λ n. n; fro = λ n. n; stands = s .stands; stands′ = s .stands′; step = s .step; step′ = s .step′;
-    there = λ n _. refl; back = λ n _. refl; rises = λ x y _ _ l. l; ends = s .ends;
+    to = λ n. n;
+    fro = λ n. n;
+    stands = s .stands;
+    stands′ = s .stands′;
+    step = s .step;
+    step′ = s .step′;
+    there = λ n _. refl;
+    back = λ n _. refl;
+    rises = λ x y _ _ l. l;
+    ends = s .ends;
     ends′ = λ x y d t. let p = s .ends x y d (s .step′ x y d t) in (s .stands x (p .0), s .stands y (p .1));
-    }
+  }
 
   pub joined-same : (a b : ℕ) → Joined S T a b → Joined S′ T′ a b
   joined-same a b j = joined-moved S T S′ T′ renames-same a b j

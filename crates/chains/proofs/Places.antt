@@ -75,7 +75,6 @@ among-unmap f (x ∷ xs) y (inr a) = let r = among-unmap f xs y a in (r .0, inr 
 
 -- the edges by place, and the same by number
 module _ (numbers : List ℕ) (rises : Rises 0 numbers) (edges : List Edge) (all : All (Inside (length numbers)) edges) (S : ℕ → Type 0) (stands-in : (n : ℕ) → S n → Among n numbers) (stands-out : (n : ℕ) → Among n numbers → S n) where
-
   pub one-way : (x y d : ℕ) → Among (edge x y d) (map (renamed (number-at numbers)) edges) → Among (edge (position x numbers) (position y numbers) d) edges
   one-way x y d a =
       let r = among-unmap (renamed (number-at numbers)) edges (edge x y d) a in
@@ -93,9 +92,10 @@ module _ (numbers : List ℕ) (rises : Rises 0 numbers) (edges : List Edge) (all
       let r = among-unmap (renamed (number-at numbers)) edges (edge x y d) a in
       let e = r .0 in
       let i = all-among (Inside (length numbers)) edges e all (r .1) in
-      let P : ℕ → Type 0 = λ z. Among z numbers in
-      ( stands-out x (subst P (sym (ap (λ z. z .elder) (r .2))) (among-at numbers (e .elder) (i .0))),
-        stands-out y (subst P (sym (ap (λ z. z .younger) (r .2))) (among-at numbers (e .younger) (i .1))) )
+      let P : ℕ → Type 0 = λ z. Among z numbers in (
+        stands-out x (subst P (sym (ap (λ z. z .elder) (r .2))) (among-at numbers (e .elder) (i .0))),
+        stands-out y (subst P (sym (ap (λ z. z .younger) (r .2))) (among-at numbers (e .younger) (i .1))),
+      )
 
   abbrev pub places-renamed : Renames (λ i. i < length numbers) (Linked edges) S (Linked (map (renamed (number-at numbers)) edges))
   places-renamed = record {
@@ -110,4 +110,4 @@ module _ (numbers : List ℕ) (rises : Rises 0 numbers) (edges : List Edge) (all
     rises = λ x y sx sy l. rises-at 0 numbers x y rises l sy;
     ends = λ x y d k. ⊎-elim (λ a. let i = all-among (Inside (length numbers)) edges (edge x y d) all a in (i .0, i .1)) (λ a. let i = all-among (Inside (length numbers)) edges (edge y x d) all a in (i .1, i .0)) k;
     ends′ = λ x y d k. ⊎-elim (λ a. ends-in x y d a) (λ a. let p = ends-in y x d a in (p .1, p .0)) k;
-    }
+  }

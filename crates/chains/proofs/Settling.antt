@@ -298,6 +298,7 @@ module _ (edges : List Edge) (goal : ℕ) (costs : List ℕ) (few : length costs
         low : (w : Worth m) → w .steps < length costs → (w .long < t′) ⊎ ((w .long ≡ t′) × (w .steps + 1 ≤ length (m ∷ rest))) → cost-at costs m + 1 ≤ t′ * 65536 + length (m ∷ rest)
         low w f (inl y) = omega (arith, w .is)
         low w f (inr y) = omega (arith, w .is, y .0, y .1)
+
         same : r ≡ m → cost-at costs m + step-cost d′ ≡ cost-at costs i → Not-after ns (m ∷ rest)
         same e′ t2 =
             let ce : cost-at costs r ≡ cost-at costs m = ap (cost-at costs) e′ in
@@ -311,6 +312,7 @@ module _ (edges : List Edge) (goal : ℕ) (costs : List ℕ) (few : length costs
                 pick2 : (length ns < length (m ∷ rest)) ⊎ ((length ns ≡ length (m ∷ rest)) × Not-after ns (m ∷ rest)) → Not-after ns (m ∷ rest)
                 pick2 (inl z) = absurd (omega arith)
                 pick2 (inr z) = z .1
+
         go : Linked edges i m d′ → cost-at costs m + step-cost d′ ≡ cost-at costs i → (r ≡ m) ⊎ ((r < m) ⊎ (m < r)) → Not-after ns (m ∷ rest)
         go k′ t2 (inl e2) = same e2 t2
         go k′ t2 (inr (inl y)) = first m rest y (route .joins .starts)

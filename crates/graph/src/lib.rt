@@ -63,16 +63,35 @@ fn island_in(links: &[Links], at: usize, edges: &mut [Edge], costs: &mut [u64]) 
 
 // The chosen chain from the record at `start` to that at `goal`: writes its numbers, and returns its length
 // and count.
-pub fn route(links: &[Links], start: usize, goal: usize, list: &mut [u16]) -> Result<(u32, u16), Refusal>
+pub fn route(
+    links: &[Links],
+    start: usize,
+    goal: usize,
+    list: &mut [u16],
+) -> Result<(u32, u16), Refusal>
     requires { ⌜ Good (now links) ⌝ ∗ ⌜ start < length (now links) ⌝ ∗ ⌜ goal < length (now links) ⌝ }
     ensures { λ r. ⌜ Routed (Standing (now (links .entry))) (Linked (edges-of (now (links .entry)))) (number-at (now (links .entry)) start) (number-at (now (links .entry)) goal) (now (list .entry)) (told r) (now (list .exit)) ⌝ }
 {
     let mut edges = [NO_EDGE; 8192];
     let mut costs = [0; 1024];
-    route_in(links, start, goal, list, &mut edges, &mut costs[0..links.len()])
+    route_in(
+        links,
+        start,
+        goal,
+        list,
+        &mut edges,
+        &mut costs[0..links.len()],
+    )
 }
 
-fn route_in(links: &[Links], start: usize, goal: usize, list: &mut [u16], edges: &mut [Edge], costs: &mut [u64]) -> Result<(u32, u16), Refusal>
+fn route_in(
+    links: &[Links],
+    start: usize,
+    goal: usize,
+    list: &mut [u16],
+    edges: &mut [Edge],
+    costs: &mut [u64],
+) -> Result<(u32, u16), Refusal>
     requires ends { ⌜ Good (now links) ⌝ ∗ ⌜ start < length (now links) ⌝ ∗ ⌜ goal < length (now links) ⌝ }
     requires room { ⌜ length (now costs) ≡ length (now links) ⌝ ∗ ⌜ 8 * length (now links) ≤ length (now edges) ⌝ }
     ensures { λ r. ⌜ Routed (Standing (now (links .entry))) (Linked (edges-of (now (links .entry)))) (number-at (now (links .entry)) start) (number-at (now (links .entry)) goal) (now (list .entry)) (told r) (now (list .exit)) ⌝ }

@@ -123,8 +123,10 @@ other-edges n m ns (h ∷ hs) d = go (cases-eq (h .number) n) (other-edges n m n
   where
     L : List Hit
     L = kept-by (λ h. has (numbers-without n ns) (h .number)) hs
+
     Goal : Type 0
     Goal = map (edge-to m) (kept-by (λ h. has (numbers-without n ns) (h .number)) (h ∷ hs)) ≡ edges-without n (map (edge-to m) (kept-by (λ h. has ns (h .number)) (h ∷ hs)))
+
     go : (h .number ≡ n) ⊎ (h .number ≡ n → ⊥) → map (edge-to m) (kept-by (λ h. has (numbers-without n ns) (h .number)) hs) ≡ edges-without n (map (edge-to m) (kept-by (λ h. has ns (h .number)) hs))
         → map (edge-to m) (cond (has (numbers-without n ns) (h .number)) (h ∷ kept-by (λ h. has (numbers-without n ns) (h .number)) hs) (kept-by (λ h. has (numbers-without n ns) (h .number)) hs)) ≡ edges-without n (map (edge-to m) (cond (has ns (h .number)) (h ∷ kept-by (λ h. has ns (h .number)) hs) (kept-by (λ h. has ns (h .number)) hs)))
     go (inl e) ih =

@@ -99,7 +99,7 @@ module _ (links : List Links) where
     few = omega (arith, s .few, o .few);
     inside = o .inside (s .inside);
     named = o .named d ∙ (ap (λ z. z ++ record-edges (numbers links) (getD links at d)) (s .named) ∙ sym (joined-more (record-edges (numbers links)) links at d l));
-    }
+  }
 
 -- halving: what lies before a smaller number is smaller, what lies behind a larger one larger
 module _ (links : List Links) (rise : Rises 0 (numbers links)) (n middle : ℕ) (l : middle < length links) where

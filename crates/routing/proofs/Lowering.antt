@@ -34,12 +34,14 @@ module _ (at by d : ℕ) (costs : List ℕ) (inA : at < length costs) (inB : by 
     where
       fall : sum (set costs at v) < sum costs
       fall = omega (arith, sumBy-set (λ x. x) costs at v 0 inA)
+
       att : (edges : List Edge) (goal : ℕ) → Linked edges at by d → Attained edges goal costs → Attained edges goal (set costs at v)
       att edges goal k a = record { inside = simp length-set (a .inside); start = begin′ (cases-eq goal at); attained = λ i. each i (cases-eq i at) }
         where
           begin′ : (goal ≡ at) ⊎ (goal ≡ at → ⊥) → cost-at (set costs at v) goal ≡ 0
           begin′ (inl x) = let z : cost-at costs at ≡ 0 = ap (cost-at costs) (sym x) ∙ a .start in absurd (omega (arith, cost-of at inA))
           begin′ (inr x) = getD-set-other costs at goal v none x ∙ a .start
+
           each : (i : ℕ) → (i ≡ at) ⊎ (i ≡ at → ⊥) → cost-at (set costs at v) i < none → Way edges goal i (cost-at (set costs at v) i)
           each i (inl x) m =
               let is : cost-at (set costs at v) i ≡ v = ap (cost-at (set costs at v)) x ∙ getD-set-same costs at v none inA in
@@ -58,18 +60,20 @@ module _ (e : Edge) (before middle after : List ℕ) where
     same = λ x. go-same one other a b x;
     settled = λ x. go-settled one other a b x;
     falls = λ x. go-falls one other a b x;
-    }
+  }
     where
       go-same : (p q : Bool) → Lowered (e .elder) (e .younger) (e .length) before p middle → Lowered (e .younger) (e .elder) (e .length) middle q after → (p || q) ≡ false → after ≡ before
       go-same true q x y z = absurd (both-ways true z refl)
       go-same false true x y z = absurd (both-ways true z refl)
       go-same false false x y z = y .same refl ∙ x .same refl
+
       go-settled : (p q : Bool) → Lowered (e .elder) (e .younger) (e .length) before p middle → Lowered (e .younger) (e .elder) (e .length) middle q after → (p || q) ≡ false → Settled-at before e
       go-settled true q x y z = absurd (both-ways true z refl)
       go-settled false true x y z = absurd (both-ways true z refl)
       go-settled false false x y z =
           let P : List ℕ → Type 0 = λ cs. cost-at cs (e .elder) < none → cost-at cs (e .younger) ≤ cost-at cs (e .elder) + step-cost (e .length) in
           record { elder = x .low refl; younger = subst P (x .same refl) (y .low refl) }
+
       go-falls : (p q : Bool) → Lowered (e .elder) (e .younger) (e .length) before p middle → Lowered (e .younger) (e .elder) (e .length) middle q after → (p || q) ≡ true → sum after < sum before
       go-falls true true x y z = omega (arith, x .falls refl, y .falls refl)
       go-falls true false x y z = omega (arith, x .falls refl, ap sum (y .same refl))
@@ -89,24 +93,29 @@ module _ (edges : List Edge) (before middle after : List ℕ) (i : ℕ) (e : Edg
     same = λ x. go-same one other a b x;
     settled = λ x. subst P (sym more) (go-settled one other a b x);
     falls = λ x. go-falls one other a b x;
-    }
+  }
     where
       P : List Edge → Type 0
       P = λ z. All (Settled-at before) z
+
       here : Among e edges
       here = (let Q : Edge → Type 0 = λ z. Among z edges in subst Q (sym is) (among-at edges i l))
+
       more : take (i + 1) edges ≡ take i edges ++ (e ∷ [])
       more = take-more edges i e l ∙ ap (λ z. take i edges ++ (z ∷ [])) (sym is)
+
       go-same : (p q : Bool) → Swept edges (take i edges) before p middle → Relaxed e middle q after → (p || q) ≡ false → after ≡ before
       go-same true q x y z = absurd (both-ways true z refl)
       go-same false true x y z = absurd (both-ways true z refl)
       go-same false false x y z = y .same refl ∙ x .same refl
+
       go-settled : (p q : Bool) → Swept edges (take i edges) before p middle → Relaxed e middle q after → (p || q) ≡ false → All (Settled-at before) (take i edges ++ (e ∷ []))
       go-settled true q x y z = absurd (both-ways true z refl)
       go-settled false true x y z = absurd (both-ways true z refl)
       go-settled false false x y z =
           let R : List ℕ → Type 0 = λ cs. Settled-at cs e in
           all-push (Settled-at before) (take i edges) e (x .settled refl) (subst R (x .same refl) (y .settled refl))
+
       go-falls : (p q : Bool) → Swept edges (take i edges) before p middle → Relaxed e middle q after → (p || q) ≡ true → sum after < sum before
       go-falls true true x y z = omega (arith, x .falls refl, y .falls refl)
       go-falls true false x y z = omega (arith, x .falls refl, ap sum (y .same refl))

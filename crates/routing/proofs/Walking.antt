@@ -96,10 +96,13 @@ module _ (costs : List ℕ) (at : ℕ) where
     where
       a : Chosen costs at (e .elder) (e .younger) (e .length) best one
       a = chosen costs at (e .elder) (e .younger) (e .length) best one isA
+
       b : Chosen costs at (e .younger) (e .elder) (e .length) one r
       b = chosen costs at (e .younger) (e .elder) (e .length) one r isB
+
       Tight : ℕ → ℕ → Type 0
       Tight j d = cost-at costs j + step-cost d ≡ cost-at costs at
+
       by-elder : (j d : ℕ) → edge at j d ≡ e → Tight j d → r ≤ j
       by-elder j d x t =
           let p : at ≡ e .elder = ap (λ z. z .elder) x in
@@ -108,6 +111,7 @@ module _ (costs : List ℕ) (at : ℕ) where
           let P : ℕ → Type 0 = λ z. cost-at costs z + step-cost (e .length) ≡ cost-at costs at in
           let t′ : cost-at costs j + step-cost (e .length) ≡ cost-at costs at = omega arith in
           omega (arith, a .found (sym p) (subst P q t′), b .lower)
+
       by-younger : (j d : ℕ) → edge j at d ≡ e → Tight j d → r ≤ j
       by-younger j d x t =
           let p : at ≡ e .younger = ap (λ z. z .younger) x in
@@ -116,22 +120,30 @@ module _ (costs : List ℕ) (at : ℕ) where
           let P : ℕ → Type 0 = λ z. cost-at costs z + step-cost (e .length) ≡ cost-at costs at in
           let t′ : cost-at costs j + step-cost (e .length) ≡ cost-at costs at = omega arith in
           omega (arith, b .found (sym p) (subst P q t′))
+
       small : (j d : ℕ) → Linked (es ++ (e ∷ [])) at j d → Tight j d → r ≤ j
       small j d (inl m) t = ⊎-elim (λ x. omega (arith, o .smallest j d (inl x) t, a .lower, b .lower)) (λ x. by-elder j d x t) (among-push es (edge at j d) e m)
       small j d (inr m) t = ⊎-elim (λ x. omega (arith, o .smallest j d (inr x) t, a .lower, b .lower)) (λ x. by-younger j d x t) (among-push es (edge j at d) e m)
+
       last : Among e (es ++ (e ∷ []))
       last = among-right es (e ∷ []) e (inl refl)
+
       Found : ℕ → Type 0
       Found z = z < length costs → (d : ℕ) × Linked (es ++ (e ∷ [])) at z d × Tight z d
+
       old : Found best
       old l = let x = o .joined l in (x .0, ⊎-elim (λ m. inl (among-left es (e ∷ []) (edge at best (x .0)) m)) (λ m. inr (among-left es (e ∷ []) (edge best at (x .0)) m)) (x .1), x .2)
+
       to-younger : e .elder ≡ at → Tight (e .younger) (e .length) → Found (e .younger)
       to-younger p t l = (e .length, inl (let P : ℕ → Type 0 = λ z. Among (edge z (e .younger) (e .length)) (es ++ (e ∷ [])) in subst P p last), t)
+
       to-elder : e .younger ≡ at → Tight (e .elder) (e .length) → Found (e .elder)
       to-elder p t l = (e .length, inr (let P : ℕ → Type 0 = λ z. Among (edge (e .elder) z (e .length)) (es ++ (e ∷ [])) in subst P p last), t)
+
       first-way : (one ≡ best) ⊎ ((one ≡ e .younger) × (e .elder ≡ at) × Tight (e .younger) (e .length)) → Found one
       first-way (inl x) = subst Found (sym x) old
       first-way (inr x) = subst Found (sym (x .0)) (to-younger (x .1) (x .2))
+
       join : (r ≡ one) ⊎ ((r ≡ e .elder) × (e .younger ≡ at) × Tight (e .elder) (e .length)) → Found r
       join (inl x) = subst Found (sym x) (first-way (a .which))
       join (inr x) = subst Found (sym (x .0)) (to-elder (x .1) (x .2))

@@ -21,11 +21,12 @@ loop-i-again c =
     let i = c .loop-i .i in
     let same = c .loop-i .inv .1 i (omega arith) in
     let k = c .loop-i .kept .list in
-    let inside : getD list i 0 < length links = omega (arith, same, all-getD (λ at. at < length links) old i 0 (c .loop-i-test .taken) (c .pre)) in
-    (below-more _ _
-      (λ j h. getD-set-other list i j _ 0 (λ e. omega arith) ∙ c .loop-i .inv .0 j h)
-      (getD-set-same list i _ 0 (omega (arith, c .loop-i-test .taken)) ∙ (number-is links (getD list i 0) (record { number = 0; count = 0; elders = [] }) inside ∙ ap (number-at links) same)),
-     λ j h. getD-set-other list i j _ 0 (λ e. omega arith) ∙ c .loop-i .inv .1 j (omega arith))
+    let inside : getD list i 0 < length links = omega (arith, same, all-getD (λ at. at < length links) old i 0 (c .loop-i-test .taken) (c .pre)) in (
+      below-more _ _
+          (λ j h. getD-set-other list i j _ 0 (λ e. omega arith) ∙ c .loop-i .inv .0 j h)
+          (getD-set-same list i _ 0 (omega (arith, c .loop-i-test .taken)) ∙ (number-is links (getD list i 0) (record { number = 0; count = 0; elders = [] }) inside ∙ ap (number-at links) same)),
+      λ j h. getD-set-other list i j _ 0 (λ e. omega arith) ∙ c .loop-i .inv .1 j (omega arith),
+    )
 
 pub returns : need.returns
 returns c =
