@@ -1,0 +1,4 @@
+pub mod Asking
+pub mod One
+pub mod Owes
+pub mod Reaching
