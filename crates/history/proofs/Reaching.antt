@@ -112,3 +112,12 @@ module _ {E : Type 0} (dist : E → E → ℕ) (top : ℕ) (laws : Metric-laws t
         let Q : Meaning E → Type 0 = λ z. Stands z y in
         (subst P (sym (r .index)) (p .0), subst Q (sym (r .index)) (p .1));
     }
+
+  pub graph-back : Same (Stands (samples h)) (Pair dist h) (Stands (road .index)) (Linked (road .edges))
+  graph-back = record {
+    stands = λ n s. let P : Meaning E → Type 0 = λ z. Stands z n in subst P (sym (r .index)) s;
+    stands′ = λ n s. let P : Meaning E → Type 0 = λ z. Stands z n in subst P (r .index) s;
+    step = from-pair;
+    step′ = to-pair;
+    ends = Rattle.history.proofs.Owes.pair-ends dist top laws h;
+    }
