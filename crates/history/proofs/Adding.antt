@@ -194,9 +194,10 @@ module _ {E : Type 0} (dist : E → E → ℕ) (top : ℕ) (laws : Metric-laws t
   admits-old x y a =
       let bx = stands-bound (samples h) law x (a .neighbour, a .elder-stands) in
       let by = stands-bound (samples h) law y (a .element, a .younger-stands) in
-      let b = a .brought in
-      ( record { older = a .older; neighbour = a .neighbour; elder-stands = old-el x bx ∙ a .elder-stands; element = a .element; younger-stands = old-el y by ∙ a .younger-stands; passes = a .passes; before = a .before; brought = record { later = asks-add e p ∷ b .later; calls = ap (λ z. asks-add e p ∷ z) (b .calls); capacity = b .capacity; k = b .k; number = b .number }; among = a .among; passed = a .passed },
-        (λ i. words.apart dist (sym (old-el x bx) i) (sym (old-el y by) i)) )
+      let b = a .brought in (
+        record { older = a .older; neighbour = a .neighbour; elder-stands = old-el x bx ∙ a .elder-stands; element = a .element; younger-stands = old-el y by ∙ a .younger-stands; passes = a .passes; before = a .before; brought = record { later = asks-add e p ∷ b .later; calls = ap (λ z. asks-add e p ∷ z) (b .calls); capacity = b .capacity; k = b .k; number = b .number }; among = a .among; passed = a .passed },
+        (λ i. words.apart dist (sym (old-el x bx) i) (sym (old-el y by) i)),
+      )
 
   near : List Hit
   near = near-hits dist (samples h) e (h .k)
@@ -221,9 +222,10 @@ module _ {E : Type 0} (dist : E → E → ℕ) (top : ℕ) (laws : Metric-laws t
       let bx = stands-bound (samples h) law x (s .element, st) in
       let sy : element-at y (samples (then-asks h (asks-add e p)) .standing) ≡ Some e = ap (λ z. element-at z (samples (then-asks h (asks-add e p)) .standing)) ey ∙ new-el in
       let P : ℕ → Type 0 = λ z. Hit-among z (near-hits dist (samples h) e (h .k)) in
-      let passed : p (s .element) e ≡ true = ap (passes-with p e) (sym own) ∙ (ap (λ z. passes-with p e (element-at (z .number) (samples h .standing))) (sym (o .2)) ∙ ks .1) in
-      ( record { older = omega arith; neighbour = s .element; elder-stands = old-el x bx ∙ st; element = e; younger-stands = sy; passes = p; before = h; brought = record { later = []; calls = refl; capacity = refl; k = refl; number = outcome ∙ ap gives (sym ey) }; among = subst P (sym (ap (λ z. z .elder) (u .2))) (hit-join g (near-hits dist (samples h) e (h .k)) (ks .0)); passed = passed },
-        ed ∙ (laws .symmetric e (s .element) ∙ (λ i. words.apart dist (sym (old-el x bx ∙ st) i) (sym sy i))) )
+      let passed : p (s .element) e ≡ true = ap (passes-with p e) (sym own) ∙ (ap (λ z. passes-with p e (element-at (z .number) (samples h .standing))) (sym (o .2)) ∙ ks .1) in (
+        record { older = omega arith; neighbour = s .element; elder-stands = old-el x bx ∙ st; element = e; younger-stands = sy; passes = p; before = h; brought = record { later = []; calls = refl; capacity = refl; k = refl; number = outcome ∙ ap gives (sym ey) }; among = subst P (sym (ap (λ z. z .elder) (u .2))) (hit-join g (near-hits dist (samples h) e (h .k)) (ks .0)); passed = passed },
+        ed ∙ (laws .symmetric e (s .element) ∙ (λ i. words.apart dist (sym (old-el x bx ∙ st) i) (sym sy i))),
+      )
 
   -- an admitted pair is an old one or a new edge
   pub admits-which : (x y : ℕ) → Admits dist (then-asks h (asks-add e p)) x y → Admits dist h x y ⊎ Among (edge x y (distance-of dist (then-asks h (asks-add e p)) x y)) new-edges
@@ -231,6 +233,7 @@ module _ {E : Type 0} (dist : E → E → ℕ) (top : ℕ) (laws : Metric-laws t
     where
       b : History E
       b = a .before
+
       go : (later : List (Asked E)) → asks-add e p ∷ h .calls ≡ later ++ (asks-add (a .element) (a .passes) ∷ a .before .calls) → Admits dist h x y ⊎ Among (edge x y (distance-of dist (then-asks h (asks-add e p)) x y)) new-edges
       go (c ∷ later) i =
           let w : Brought h y (a .element) (a .passes) (a .before) = record { later = later; calls = cc; capacity = a .brought .capacity; k = a .brought .k; number = a .brought .number } in
@@ -260,3 +263,43 @@ module _ {E : Type 0} (dist : E → E → ℕ) (top : ℕ) (laws : Metric-laws t
           let Q : Edge → Type 0 = λ z. Among z new-edges in
           let is : edge-to (samples h .last + 1) hit ≡ edge x y (distance-of dist (then-asks h (asks-add e p)) x y) = (λ j. edge (g .2 j) (sym num j) (sym far j)) in
           inr (subst Q is (among-map (edge-to (samples h .last + 1)) (kept-by (passes-hit p e (samples h)) (near-hits dist (samples h) e (h .k))) hit (kept-join (passes-hit p e (samples h)) (near-hits dist (samples h) e (h .k)) hit (g .1) t)))
+
+-- an add, accepted or refused
+pub reached-add : {E : Type 0} (dist : E → E → ℕ) (top : ℕ) (laws : Metric-laws top dist) (h : History E) (e : E) (p : E → E → Bool) → ((x y : E) → p x y ≡ p y x) → (road after : Road E) → after ≡ grow-leaves dist p road e → Reached dist h road → Reached dist (then-asks h (asks-add e p)) after
+reached-add {E} dist top laws h e p even road after is r = go (room-of (samples h)) refl
+  where
+    rooms : room-of (road .index) ≡ room-of (samples h)
+    rooms = ap room-of (r .index)
+
+    go : (o : Outcome Unit) → room-of (samples h) ≡ o → Reached dist (then-asks h (asks-add e p)) after
+    go (refuses code f) i = reached-quiet dist h (asks-add e p) other (ap (add-leaves-at (samples h) e) i) (even, r .even) road after (is ∙ ap (grow-leaves-at dist p road e) (rooms ∙ i)) r
+      where
+        other : (n : ℕ) (g : E) (q : E → E → Bool) (b : History E) → Brought (then-asks h (asks-add e p)) n g q b → Brought h n g q b
+        other n g q b x = pick (x .later) (x .calls)
+          where
+            pick : (later : List (Asked E)) → asks-add e p ∷ h .calls ≡ later ++ (asks-add g q ∷ b .calls) → Brought h n g q b
+            pick (c ∷ later) j = record { later = later; calls = cc; capacity = x .capacity; k = x .k; number = x .number }
+            pick [] j =
+                let ec : h .calls ≡ b .calls = cc in
+                let same : samples h ≡ samples b = (λ z. samples-after (x .capacity z) (ec z)) in
+                let bad : refuses code f ≡ gives n = sym (ap (λ o. given-room o (samples h .last + 1)) i) ∙ (ap add-outcome same ∙ x .number) in
+                absurd (let z : _≡_ {A = ℕ} 0 1 = cc in omega arith)
+    go (gives u) i =
+        let free : room-of (samples h) ≡ gives tt = i in
+        let N = new-edges dist top laws h e p (r .law) free in
+        let same : after ≡ record { index = added (samples h) e; k = h .k; edges = road .edges ++ N } = is ∙ (ap (grow-leaves-at dist p road e) (rooms ∙ i) ∙ (λ j. record { index = added (r .index j) e; k = r .k j; edges = road .edges ++ map (edge-to (r .index j .last + 1)) (kept-by (passes-hit p e (r .index j)) (near-hits dist (r .index j) e (r .k j))) })) in
+        let P : Road E → Type 0 = λ z. Reached dist (then-asks h (asks-add e p)) z in
+        subst P (sym same) (record {
+          index = sym (ap (add-leaves-at (samples h) e) free);
+          k = refl;
+          law = add-lawful dist top laws h e p (r .law) free;
+          even = (even, r .even);
+          kept = λ x y d a. ⊎-elim
+              (λ b. let s = r .kept x y d b in let t = admits-old dist top laws h e p (r .law) free x y (s .0) in (t .0, s .1 ∙ t .1))
+              (λ b. admits-new dist top laws h e p (r .law) free x y d b)
+              (append-split (road .edges) N (edge x y d) a);
+          held = λ x y a. ⊎-elim
+              (λ b. let t = admits-old dist top laws h e p (r .law) free x y b in let Q : ℕ → Type 0 = λ z. Among (edge x y z) (road .edges ++ N) in subst Q (t .1) (append-left (road .edges) N (edge x y (distance-of dist h x y)) (r .held x y b)))
+              (λ b. append-right (road .edges) N (edge x y (distance-of dist (then-asks h (asks-add e p)) x y)) b)
+              (admits-which dist top laws h e p (r .law) free x y a);
+        })

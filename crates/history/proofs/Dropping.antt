@@ -87,8 +87,10 @@ reached-drop {E} dist h n ev road after is r = go (element-at n (samples h .stan
   where
     other : (x : ℕ) (e : E) (p : E → E → Bool) (b : History E) → Brought (then-asks h (asks-drop n)) x e p b → Brought h x e p b
     other = not-brought h (asks-drop n) (λ e p i. let z : _≡_ {A = ℕ} 0 1 = cc in omega arith)
+
     el : element-at n (road .index .standing) ≡ element-at n (samples h .standing)
     el = ap (λ z. element-at n (z .standing)) (r .index)
+
     go : (o : Option E) → element-at n (samples h .standing) ≡ o → Reached dist (then-asks h (asks-drop n)) after
     go None e = reached-quiet dist h (asks-drop n) other (ap (drop-leaves-at (samples h) n) e) ev road after (is ∙ (λ i. record { index = drop-leaves-at (road .index) n ((el ∙ e) i); k = road .k; edges = shrunk-edges n (road .edges) ((el ∙ e) i) })) r
     go (Some f) e =
@@ -101,8 +103,10 @@ reached-drop {E} dist h n ev road after is r = go (element-at n (samples h .stan
       where
         gone : samples (then-asks h (asks-drop n)) ≡ dropped (samples h) n → (x : ℕ) → Stands (samples (then-asks h (asks-drop n))) x → x ≡ n → ⊥
         gone left x s i = some-none x (element-at x (dropped (samples h) n .standing)) (s .0) (ap (λ z. element-at x (z .standing)) (sym left) ∙ s .1) (ap (λ z. element-at z (without n (samples h .standing))) i ∙ none-left n (samples h .standing))
+
         shrinks : samples (then-asks h (asks-drop n)) ≡ dropped (samples h) n → (x : ℕ) (g : E) → element-at x (samples (then-asks h (asks-drop n)) .standing) ≡ Some g → element-at x (samples h .standing) ≡ Some g
         shrinks left x g i = sym (others-left n x (samples h .standing) (gone left x (g, i))) ∙ (ap (λ z. element-at x (z .standing)) (sym left) ∙ i)
+
         lawful : Lawful (dropped (samples h) n)
         lawful = record { capacity-bound = r .law .capacity-bound; last-bound = r .law .last-bound; rising = rising-without n 0 (samples h .last) (samples h .standing) (r .law .rising); room = omega (arith, fewer (samples h .standing), r .law .room) }
           where
@@ -113,13 +117,16 @@ reached-drop {E} dist h n ev road after is r = go (element-at n (samples h .stan
                 pick : (b : Bool) → length (without n xs) ≤ length xs → length (cond b (without n xs) (x ∷ without n xs)) ≤ length (x ∷ xs)
                 pick true l = omega arith
                 pick false l = omega arith
+
         back : samples (then-asks h (asks-drop n)) ≡ dropped (samples h) n → (x : ℕ) → (x ≡ n → ⊥) → Stands (samples h) x → Stands (samples (then-asks h (asks-drop n))) x
         back left x d s = (s .0, ap (λ z. element-at x (z .standing)) left ∙ (others-left n x (samples h .standing) d ∙ s .1))
+
         there : samples (then-asks h (asks-drop n)) ≡ dropped (samples h) n → (x y d : ℕ) → Among (edge x y d) (edges-without n (road .edges)) → Among (edge x y d) (road .edges) × Stands (samples (then-asks h (asks-drop n))) x × Stands (samples (then-asks h (asks-drop n))) y
         there left x y d a =
             let p = edge-left n (road .edges) (edge x y d) a in
             let t = or-parts (eqb x n) (eqb y n) (p .1) in
             let s = r .kept x y d (p .0) .0 in
             (p .0, back left x (eqb-false x n (t .0)) (s .neighbour, s .elder-stands), back left y (eqb-false y n (t .1)) (s .element, s .younger-stands))
+
         here : samples (then-asks h (asks-drop n)) ≡ dropped (samples h) n → (x y d : ℕ) → Among (edge x y d) (road .edges) → Stands (samples (then-asks h (asks-drop n))) x → Stands (samples (then-asks h (asks-drop n))) y → Among (edge x y d) (edges-without n (road .edges))
         here left x y d a sx sy = edge-stays n (road .edges) (edge x y d) a (or-from (eqb x n) (eqb y n) (ne-eqb x n (gone left x sx)) (ne-eqb y n (gone left y sy)))

@@ -5,3 +5,4 @@ pub mod Reaching
 pub mod Giving
 pub mod Dropping
 pub mod Adding
+pub mod Playing

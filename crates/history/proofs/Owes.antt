@@ -71,6 +71,7 @@ module _ {E : Type 0} (dist : E → E → ℕ) (top : ℕ) (laws : Metric-laws t
     where
       even : (n : ℕ) (e : E) (q : E → E → Bool) (b : History E) → Brought h n e q b → (s t : E) → q s t ≡ q t s
       even n e q b w = (let P : List (Asked E) → Type 0 = λ z. Even z in even-at (w .later) e q (b .calls) (subst P (w .calls) v))
+
       go : Admits dist h x y ⊎ Admits dist h y x → Step-passes dist h x y
       go (inl a) = inl (a .older, record { from = (a .neighbour, a .elder-stands); to = (a .element, a .younger-stands); element = a .element; passes = a .passes; before = a .before; brought = a .brought; passed = a .passed })
       go (inr a) = inr (a .older, record { from = (a .element, a .younger-stands); to = (a .neighbour, a .elder-stands); element = a .element; passes = a .passes; before = a .before; brought = a .brought; passed = even x (a .element) (a .passes) (a .before) (a .brought) (a .element) (a .neighbour) ∙ a .passed })

@@ -46,12 +46,12 @@ reached-start dist k size l = record {
   even = tt;
   kept = λ x y d a. absurd a;
   held = λ x y a. absurd (let e = a .elder-stands in let z : _≡_ {A = ℕ} 0 1 = cc in omega arith);
-  }
+}
 
 -- A call that brings no sample: what stands afterwards stood before, and the edges are those whose ends still stand.
 module _ {E : Type 0} (dist : E → E → ℕ) (h : History E) (q : Asked E)
-  (shrinks : (n : ℕ) (e : E) → element-at n (samples (then-asks h q) .standing) ≡ Some e → element-at n (samples h .standing) ≡ Some e)
-  (other : (n : ℕ) (e : E) (p : E → E → Bool) (b : History E) → Brought (then-asks h q) n e p b → Brought h n e p b) where
+    (shrinks : (n : ℕ) (e : E) → element-at n (samples (then-asks h q) .standing) ≡ Some e → element-at n (samples h .standing) ≡ Some e)
+    (other : (n : ℕ) (e : E) (p : E → E → Bool) (b : History E) → Brought (then-asks h q) n e p b → Brought h n e p b) where
   brought-on : (n : ℕ) (e : E) (p : E → E → Bool) (b : History E) → Brought h n e p b → Brought (then-asks h q) n e p b
   brought-on n e p b x = record { later = q ∷ x .later; calls = ap (λ z. q ∷ z) (x .calls); capacity = x .capacity; k = x .k; number = x .number }
 
@@ -82,7 +82,7 @@ module _ {E : Type 0} (dist : E → E → ℕ) (h : History E) (q : Asked E)
         let sy : Stands (samples (then-asks h q)) y = (a .element, a .younger-stands) in
         let P : ℕ → Type 0 = λ z. Among (edge x y z) (after .edges) in
         subst P (as-far x y sx sy) (here x y (distance-of dist h x y) (r .held x y (admits-off x y a)) sx sy);
-    }
+  }
 
 -- the same graph, by edges and by admitted pairs
 module _ {E : Type 0} (dist : E → E → ℕ) (top : ℕ) (laws : Metric-laws top dist) (h : History E) (road : Road E) (r : Reached dist h road) where
@@ -111,7 +111,7 @@ module _ {E : Type 0} (dist : E → E → ℕ) (top : ℕ) (laws : Metric-laws t
         let P : Meaning E → Type 0 = λ z. Stands z x in
         let Q : Meaning E → Type 0 = λ z. Stands z y in
         (subst P (sym (r .index)) (p .0), subst Q (sym (r .index)) (p .1));
-    }
+  }
 
   pub graph-back : Same (Stands (samples h)) (Pair dist h) (Stands (road .index)) (Linked (road .edges))
   graph-back = record {
@@ -120,4 +120,4 @@ module _ {E : Type 0} (dist : E → E → ℕ) (top : ℕ) (laws : Metric-laws t
     step = from-pair;
     step′ = to-pair;
     ends = Rattle.history.proofs.Owes.pair-ends dist top laws h;
-    }
+  }

@@ -8,6 +8,7 @@ ghost use Rattle.roadmap.specs.Roads.{road-of, Road-sound};
 ghost use Rattle.history.specs.Turns.{lent, Does, Ran};
 ghost use Rattle.history.specs.History.{start};
 ghost use Rattle.history.specs.Law.{All-alike, Whole};
+ghost use Rattle.std.specs.declared.result.Result.the-variants.{Ok};
 use checker::Checker;
 use hits::Hit;
 use index::index::Index;
@@ -57,7 +58,12 @@ pub enum Unplayed {
 }
 
 // Makes one call on a roadmap.
-fn ask<'a, I: Index + Drop, C: Checker<I::Element>>(road: &mut Roadmap<'a, I>, call: &Call<I::Element, C>, list: &mut [Hit], numbers: &mut [u16]) -> Answer<I::Element>
+fn ask<'a, I: Index + Drop, C: Checker<I::Element>>(
+    road: &mut Roadmap<'a, I>,
+    call: &Call<I::Element, C>,
+    list: &mut [Hit],
+    numbers: &mut [u16],
+) -> Answer<I::Element>
     requires { ⌜ Road-sound (I·Index .sound) (I·Index .meaning) (now road) ⌝ }
     ensures stays { λ _. ⌜ Road-sound (I·Index .sound) (I·Index .meaning) (now (road .exit)) ⌝ }
     ensures does { λ r. ⌜ Does (Element·Metric .dist) (C·Checker .passes) (road-of (I·Index .meaning) (now (road .entry))) (now (call .entry)) (lent (now (list .entry)) (now (numbers .entry))) r (lent (now (list .exit)) (now (numbers .exit))) (road-of (I·Index .meaning) (now (road .exit))) ⌝ }
@@ -105,7 +111,13 @@ fn ask<'a, I: Index + Drop, C: Checker<I::Element>>(road: &mut Roadmap<'a, I>, c
 }
 
 // Makes the calls in order on a roadmap, and writes down the answers.
-fn run<'a, I: Index + Drop, C: Checker<I::Element>>(road: &mut Roadmap<'a, I>, calls: &[Call<I::Element, C>], list: &mut [Hit], numbers: &mut [u16], answers: &mut [Answer<I::Element>])
+fn run<'a, I: Index + Drop, C: Checker<I::Element>>(
+    road: &mut Roadmap<'a, I>,
+    calls: &[Call<I::Element, C>],
+    list: &mut [Hit],
+    numbers: &mut [u16],
+    answers: &mut [Answer<I::Element>],
+)
     requires { ⌜ Road-sound (I·Index .sound) (I·Index .meaning) (now road) ⌝ ∗ ⌜ length (now calls) ≡ length (now answers) ⌝ }
     ensures stays { λ _. ⌜ Road-sound (I·Index .sound) (I·Index .meaning) (now (road .exit)) ⌝ }
     ensures ran { λ _. ⌜ Ran (Element·Metric .dist) (C·Checker .passes) (road-of (I·Index .meaning) (now (road .entry))) (now (calls .entry)) (lent (now (list .entry)) (now (numbers .entry))) (now (answers .exit)) (lent (now (list .exit)) (now (numbers .exit))) (road-of (I·Index .meaning) (now (road .exit))) ⌝ }
@@ -113,4 +125,51 @@ fn run<'a, I: Index + Drop, C: Checker<I::Element>>(road: &mut Roadmap<'a, I>, c
     for i in 0..calls.len() {
         answers[i] = ask(road, &calls[i], list, numbers);
     }
+}
+
+// Makes a roadmap over each of two indexes of one kind, and makes the same calls on both, with lists of their
+// own. Two fresh indexes of one capacity then answer alike and leave their lists alike at every turn, as the
+// history says, if the calls are the same, the checkers pass the same pairs and the lists held the same.
+pub fn compare<
+    'a,
+    'b,
+    I: Index + Drop,
+    J: Index<Element = I::Element> + Drop,
+    C: Checker<I::Element>,
+    D: Checker<I::Element>,
+>(
+    first: I,
+    second: J,
+    k: u32,
+    links: &'a mut [Links],
+    spare: &'b mut [Links],
+    calls: &[Call<I::Element, C>],
+    others: &[Call<I::Element, D>],
+    list: &mut [Hit],
+    copy: &mut [Hit],
+    numbers: &mut [u16],
+    twins: &mut [u16],
+    answers: &mut [Answer<I::Element>],
+    again: &mut [Answer<I::Element>],
+) -> Result<(), Unplayed>
+    requires { ⌜ I·Index .sound first ⌝ ∗ ⌜ J·Index .sound second ⌝ }
+    ensures { λ r. ⌜ (r ≡ Ok tt → (size : ℕ) → I·Index .meaning first ≡ fresh size → J·Index .meaning second ≡ fresh size → All-alike (C·Checker .passes) (D·Checker .passes) (now (calls .entry)) (now (others .entry)) → now (list .entry) ≡ now (copy .entry) → now (numbers .entry) ≡ now (twins .entry) → Whole (Element·Metric .dist) (C·Checker .passes) (D·Checker .passes) (start k size) (now (calls .entry)) (now (others .entry)) (lent (now (list .entry)) (now (numbers .entry))) (now (answers .exit)) (lent (now (list .exit)) (now (numbers .exit))) (now (again .exit)) (lent (now (copy .exit)) (now (twins .exit)))) ⌝ }
+{
+    if answers.len() != calls.len() {
+        return Err(Unplayed::Answers(calls.len()));
+    }
+    if again.len() != others.len() {
+        return Err(Unplayed::Answers(others.len()));
+    }
+    let mut one = match Roadmap::new(first, k, links) {
+        Ok(road) => road,
+        Err(unmade) => return Err(Unplayed::Unmade(unmade)),
+    };
+    let mut two = match Roadmap::new(second, k, spare) {
+        Ok(road) => road,
+        Err(unmade) => return Err(Unplayed::Unmade(unmade)),
+    };
+    run(&mut one, calls, list, numbers, answers);
+    run(&mut two, others, copy, twins, again);
+    Ok(())
 }
