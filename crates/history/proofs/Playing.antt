@@ -1,19 +1,24 @@
 -- A run on a roadmap that a history has reached plays as the history gives. Assumes nothing.
 use mathlib.Core.Bool.{Bool}
 use mathlib.Core.List.{List, [], _∷_}
+use mathlib.Core.Logic.{inl, inr}
 use mathlib.Core.Path.{_≡_, refl, sym, ap, _∙_, subst}
 use Prim.Native.Nat.{ℕ, _≤_}
 use native.Mathlib.Omega.{arith}
 use Rattle.metric.specs.Laws.{Metric-laws}
 use Rattle.checker.specs.Laws.{Symmetric}
 use Rattle.index.specs.Meaning.{Meaning, fresh}
-use Rattle.roadmap.specs.Roads.{Road}
+use Rattle.std.specs.declared.result.Result.the-variants.{Err}
+use Rattle.roadmap.specs.declared.Unmade.{Unmade}
+use Rattle.roadmap.specs.declared.Unmade.the-variants.{Setting, TooFewRecords}
+use Rattle.roadmap.specs.Roads.{Road, Made}
+use Rattle.history.specs.declared.Unplayed.the-variants as play
 use Rattle.history.specs.declared.Call.{Call}
 use Rattle.history.specs.declared.Call.the-variants as call
 use Rattle.history.specs.declared.Answer.{Answer}
 use Rattle.history.specs.History.{Asked, asks-add, asks-drop, asks-element, asks-tally, asks-near, asks-within, asks-island, asks-route, Reply, Lists, History, samples, start, then-asks}
 use Rattle.history.specs.Turns.{Lent, reply, asked, Tells, Does, Runs, final, Ran}
-use Rattle.history.specs.Law.{Turn, Plays, All-alike, Whole}
+use Rattle.history.specs.Law.{Turn, Plays, All-alike, Judged, Whole}
 use Rattle.history.proofs.One.{same-plays}
 use Rattle.history.proofs.Owes.{Even, owed}
 use Rattle.history.proofs.Reaching.{Reached, reached-start}
@@ -82,3 +87,13 @@ pub reached-new : {E : Type 0} (dist : E → E → ℕ) (k size : ℕ) → size 
 reached-new {E} dist k size l road m e f =
     let P : Road E → Type 0 = λ z. Reached dist (start k size) z in
     subst P (sym (e ∙ ap (λ z. record { index = z; k = k; edges = [] }) f)) (reached-start dist k size l)
+
+-- a roadmap that is not made
+module _ {I E : Type 0} (sound : I → Type 0) (meaning : I → Meaning E) (i : I) (k : ℕ) where
+  pub judged-first : (calls answers others again links second spare : ℕ) (u : Unmade) → answers ≡ calls → again ≡ others → Made sound meaning i k links (Err u) → Judged k calls answers others again (meaning i .capacity) links second spare (Err (play.Unmade u))
+  judged-first calls answers others again links second spare (Setting v) a b m = (a, b, m .0, m .1)
+  judged-first calls answers others again links second spare (TooFewRecords n) a b m = (a, b, m .0, m .1, inl (m .2, m .3))
+
+  pub judged-second : (calls answers others again capacity links spare : ℕ) (u : Unmade) → answers ≡ calls → again ≡ others → capacity ≤ links → Made sound meaning i k spare (Err u) → Judged k calls answers others again capacity links (meaning i .capacity) spare (Err (play.Unmade u))
+  judged-second calls answers others again capacity links spare (Setting v) a b f m = (a, b, m .0, m .1)
+  judged-second calls answers others again capacity links spare (TooFewRecords n) a b f m = (a, b, m .0, m .1, inr (f, m .2, m .3))

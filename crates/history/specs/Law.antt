@@ -5,12 +5,17 @@ use mathlib.Core.Logic.{_⊎_}
 use mathlib.Core.Path.{_≡_}
 use Prim.Native.Nat.{ℕ, _<_, _≤_}
 use lib.ListN.{length}
+use Rattle.std.specs.declared.result.Result.{Result}
+use Rattle.std.specs.declared.result.Result.the-variants.{Ok, Err}
 use Rattle.hits.specs.Lists.{over}
 use Rattle.chains.specs.Chains.{Joins, Joined, Island, Route}
 use Rattle.roadmap.specs.Roads.{Stands}
 use Rattle.history.specs.declared.Call.{Call}
 use Rattle.history.specs.declared.Call.the-variants as call
 use Rattle.history.specs.declared.Answer.{Answer}
+use Rattle.history.specs.declared.Unplayed.{Unplayed}
+use Rattle.history.specs.declared.Unplayed.the-variants.{Unmade, Answers}
+use Rattle.roadmap.specs.declared.Unmade.the-variants.{Setting, TooFewRecords}
 use Rattle.history.specs.History.{Asked, asks-add, asks-drop, asks-element, asks-tally, asks-near, asks-within, asks-island, asks-route, Reply, names, leads, Lists, number-list, History, samples, then-asks, Brought, Pair, Gives}
 use Rattle.history.specs.Turns.{Lent, reply, asked, places-of, lists-after, final}
 
@@ -109,3 +114,11 @@ pub record Whole {E C D : Type 0} (dist : E → E → ℕ) (p : C → E → E �
   pub ends : final l turns ≡ m
   pub ends-again : final l turns ≡ n
   pub same-answers : replies answers ≡ replies again
+
+-- Whether a comparison is made: refused exactly if the answers do not fit the calls, first of the one run, then of the other;
+-- else if a roadmap cannot be made, first the one, then the other.
+abbrev pub Judged : (k calls answers others again capacity links second spare : ℕ) → Result Unit Unplayed → Type 0
+Judged k calls answers others again capacity links second spare (Ok u) = (answers ≡ calls) × (again ≡ others) × (1 ≤ k) × (k ≤ 8) × (capacity ≤ links) × (second ≤ spare)
+Judged k calls answers others again capacity links second spare (Err (Answers n)) = ((n ≡ calls) × (answers ≡ calls → ⊥)) ⊎ ((answers ≡ calls) × (n ≡ others) × (again ≡ others → ⊥))
+Judged k calls answers others again capacity links second spare (Err (Unmade (Setting v))) = (answers ≡ calls) × (again ≡ others) × (v ≡ k) × ((k ≡ 0) ⊎ (8 < k))
+Judged k calls answers others again capacity links second spare (Err (Unmade (TooFewRecords n))) = (answers ≡ calls) × (again ≡ others) × (1 ≤ k) × (k ≤ 8) × (((n ≡ capacity) × (links < capacity)) ⊎ ((capacity ≤ links) × (n ≡ second) × (spare < second)))

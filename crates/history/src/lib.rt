@@ -7,7 +7,7 @@ ghost use Rattle.index.specs.Meaning.{fresh};
 ghost use Rattle.roadmap.specs.Roads.{road-of, Road-sound};
 ghost use Rattle.history.specs.Turns.{lent, Does, Ran};
 ghost use Rattle.history.specs.History.{start};
-ghost use Rattle.history.specs.Law.{All-alike, Whole};
+ghost use Rattle.history.specs.Law.{All-alike, Judged, Whole};
 ghost use Rattle.std.specs.declared.result.Result.the-variants.{Ok};
 use checker::Checker;
 use hits::Hit;
@@ -153,7 +153,8 @@ pub fn compare<
     again: &mut [Answer<I::Element>],
 ) -> Result<(), Unplayed>
     requires { ⌜ I·Index .sound first ⌝ ∗ ⌜ J·Index .sound second ⌝ }
-    ensures { λ r. ⌜ (r ≡ Ok tt → (size : ℕ) → I·Index .meaning first ≡ fresh size → J·Index .meaning second ≡ fresh size → All-alike (C·Checker .passes) (D·Checker .passes) (now (calls .entry)) (now (others .entry)) → now (list .entry) ≡ now (copy .entry) → now (numbers .entry) ≡ now (twins .entry) → Whole (Element·Metric .dist) (C·Checker .passes) (D·Checker .passes) (start k size) (now (calls .entry)) (now (others .entry)) (lent (now (list .entry)) (now (numbers .entry))) (now (answers .exit)) (lent (now (list .exit)) (now (numbers .exit))) (now (again .exit)) (lent (now (copy .exit)) (now (twins .exit)))) ⌝ }
+    ensures judged { λ r. ⌜ Judged k (length (now (calls .entry))) (length (now (answers .entry))) (length (now (others .entry))) (length (now (again .entry))) (I·Index .meaning first .capacity) (length (now (links .entry))) (J·Index .meaning second .capacity) (length (now (spare .entry))) r ⌝ }
+    ensures law { λ r. ⌜ (r ≡ Ok tt → (size : ℕ) → I·Index .meaning first ≡ fresh size → J·Index .meaning second ≡ fresh size → All-alike (C·Checker .passes) (D·Checker .passes) (now (calls .entry)) (now (others .entry)) → now (list .entry) ≡ now (copy .entry) → now (numbers .entry) ≡ now (twins .entry) → Whole (Element·Metric .dist) (C·Checker .passes) (D·Checker .passes) (start k size) (now (calls .entry)) (now (others .entry)) (lent (now (list .entry)) (now (numbers .entry))) (now (answers .exit)) (lent (now (list .exit)) (now (numbers .exit))) (now (again .exit)) (lent (now (copy .exit)) (now (twins .exit)))) ⌝ }
 {
     if answers.len() != calls.len() {
         return Err(Unplayed::Answers(calls.len()));
