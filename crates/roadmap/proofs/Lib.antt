@@ -1,0 +1,4 @@
+pub mod Standing
+pub mod Linking
+pub mod Filling
+pub mod States
