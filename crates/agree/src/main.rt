@@ -1,5 +1,7 @@
 // One history of tool cards, played on a roadmap over the scan and on one over a tree, for trees of several
 // settings. Prints each call with its answer, and that all answer alike.
+#![tactic(auto)]
+
 mod story;
 mod tell;
 

@@ -1,4 +1,6 @@
 // Answers of a roadmap's calls as lines of text.
+#![tactic(auto)]
+
 mod line;
 mod numbers;
 

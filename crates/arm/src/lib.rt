@@ -1,4 +1,6 @@
 // An arm's pose: six joints, each an angle of which 4,096 make a full turn.
+#![tactic(auto)]
+
 ghost use Rattle.std.specs.Prelude.{◌≡◌, ℕ, ◌≤◌, unsigned_abs};
 ghost use Rattle.arm.specs.Turns.{turn_of, swing_of};
 ghost use Rattle.arm.specs.Poses.{pose_distance};

@@ -1,4 +1,6 @@
 // A tool card: eight slots, each a byte that names what is held there.
+#![tactic(auto)]
+
 ghost use Rattle.std.specs.Prelude.{◌≡◌, ◌≤◌};
 ghost use Rattle.card.specs.Cards.{slot_cost, card_distance};
 ghost use Rattle.card.specs.Lawful.{card_lawful};

@@ -1,4 +1,6 @@
 // Mix: the checker of cards. A wall asks for a value in some of the slots.
+#![tactic(auto)]
+
 ghost use Rattle.std.specs.Prelude.{◌≡◌};
 ghost use Rattle.card_checker.specs.Passes.{free, clear, mix_passes};
 ghost use Rattle.card_checker.specs.Lawful.{mix_symmetric};

@@ -1,4 +1,5 @@
 // Edges between samples, and the theory of the chains that they make.
+#![tactic(auto)]
 
 // An edge joins a sample to an elder one and is as long as their distance.
 #[derive(Clone, Copy, Debug, PartialEq)]

@@ -1,4 +1,6 @@
 // An edge checker: it decides which pairs of elements may be joined.
+#![tactic(auto)]
+
 ghost use Rattle.std.specs.Prelude.{◌≡◌, Bool};
 ghost use Rattle.checker.specs.Laws.{Symmetric};
 

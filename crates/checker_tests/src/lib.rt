@@ -1,4 +1,6 @@
 // Step, Box and Mix beside the same rules computed another way, over many pairs and walls.
+#![tactic(auto)]
+
 mod plain;
 mod rolls;
 

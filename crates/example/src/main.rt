@@ -1,4 +1,6 @@
 // A tour of the library: each action with its answer in plain words.
+#![tactic(auto)]
+
 mod indexes;
 mod kinds;
 mod moves;

@@ -13,8 +13,8 @@ fn tell_refusal(rt: &HostRuntime, refusal: Refusal) -> io::Result<()> {
 pub fn tell_add<I: Index>(rt: &HostRuntime, index: &mut I, e: I::Element) -> io::Result<()>
 where
     I::Element: Debug,
-    requires { sound index.old }
-    ensures { sound index.new }
+    requires { I.sound index.old }
+    ensures { I.sound index.new }
 {
     print!(rt; "  add {e:?}: ")?;
     match index.add(e) {
@@ -24,8 +24,8 @@ where
 }
 
 pub fn tell_drop<I: Index>(rt: &HostRuntime, index: &mut I, number: u16) -> io::Result<()>
-    requires { sound index.old }
-    ensures { sound index.new }
+    requires { I.sound index.old }
+    ensures { I.sound index.new }
 {
     print!(rt; "  drop {number}: ")?;
     match index.drop(number) {
@@ -37,7 +37,7 @@ pub fn tell_drop<I: Index>(rt: &HostRuntime, index: &mut I, number: u16) -> io::
 pub fn tell_element<I: Index>(rt: &HostRuntime, index: &I, number: u16) -> io::Result<()>
 where
     I::Element: Debug,
-    requires { sound index.now }
+    requires { I.sound index.now }
 {
     print!(rt; "  element {number}: ")?;
     match index.element(number) {
@@ -47,7 +47,7 @@ where
 }
 
 pub fn tell_tally<I: Index>(rt: &HostRuntime, index: &I) -> io::Result<()>
-    requires { sound index.now }
+    requires { I.sound index.now }
 {
     let (capacity, standing, last) = index.tally();
     println!(rt; "  tally: capacity {capacity}, {standing} standing, last number {last}")
@@ -71,7 +71,7 @@ pub fn tell_near<I: Index>(
 ) -> io::Result<()>
 where
     I::Element: Debug,
-    requires { sound index.now }
+    requires { I.sound index.now }
 {
     print!(rt; "  the {k} nearest to {q:?}: ")?;
     match index.near(q, k, list) {
@@ -95,7 +95,7 @@ pub fn tell_within<I: Index>(
 ) -> io::Result<()>
 where
     I::Element: Debug,
-    requires { sound index.now }
+    requires { I.sound index.now }
 {
     let found = index.within(q, radius, list);
     let written = found.min(list.len());

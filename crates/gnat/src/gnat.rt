@@ -39,7 +39,7 @@ pub struct Gnat<'a, E> {
 impl<'a, E: Metric> Gnat<'a, E> {
     // An index over the rows that are lent, of which it uses at most 1,024.
     pub fn new(rows: &'a mut [Row<E>], settings: Settings) -> Gnat<'a, E>
-        ensures sound { GnatSound dist result }
+        ensures sound { GnatSound E.dist result }
         ensures fresh { gnat_meaning result ≡ fresh (min (length rows.old) 1024) }
         ensures tree { gnat_tree result ≡ leaf [] }
         ensures degree { result.degree ≡ settings.degree }
@@ -66,7 +66,7 @@ impl<'a, E: Metric> Gnat<'a, E> {
 
     // Where the sample of this number is listed.
     fn place_of(&self, number: u16) -> Option<usize>
-        requires { GnatSound dist self.now }
+        requires { GnatSound E.dist self.now }
         ensures { Listed self.now.rows.now self.now.standing number result }
     {
         find(self.rows, self.standing, number)
@@ -82,8 +82,8 @@ impl<'a, E: Metric> Gnat<'a, E> {
 
     // Files all standing samples anew; the marked rows are then free.
     fn rebuild(&mut self)
-        requires { GnatSound dist self.old }
-        ensures { Rebuilt dist self.old self.new }
+        requires { GnatSound E.dist self.old }
+        ensures { Rebuilt E.dist self.old self.new }
     {
         let count = self.standing;
         let degree = self.degree as usize;
@@ -94,10 +94,10 @@ impl<'a, E: Metric> Gnat<'a, E> {
 
     // Files an element under the next number, in the first free row.
     fn file_new(&mut self, e: E)
-        requires sound { GnatSound dist self.old }
+        requires sound { GnatSound E.dist self.old }
         requires room { self.old.standing + self.old.marked < capacity_of self.old }
         requires numbers { self.old.last < 65535 }
-        ensures { FiledNew dist self.old e self.new }
+        ensures { FiledNew E.dist self.old e self.new }
     {
         let standing = self.standing;
         let in_use = standing + self.marked;
@@ -113,9 +113,9 @@ impl<'a, E: Metric> Gnat<'a, E> {
 
     // Takes out the sample that is listed at `at`.
     fn take_away(&mut self, at: usize)
-        requires sound { GnatSound dist self.old }
+        requires sound { GnatSound E.dist self.old }
         requires listed { at < self.old.standing }
-        ensures { TakesOut dist self.old at self.new }
+        ensures { TakesOut E.dist self.old at self.new }
     {
         let standing = self.standing;
         let marked = self.marked;
@@ -129,10 +129,10 @@ impl<'a, E: Metric> Gnat<'a, E> {
 
     // Files an element under the next number, after a rebuild if no row is free.
     fn insert(&mut self, e: E)
-        requires sound { GnatSound dist self.old }
+        requires sound { GnatSound E.dist self.old }
         requires room { self.old.standing < capacity_of self.old }
         requires numbers { self.old.last < 65535 }
-        ensures { Inserted dist self.old e self.new }
+        ensures { Inserted E.dist self.old e self.new }
     {
         if self.standing + self.marked == self.capacity() {
             self.rebuild();
@@ -142,12 +142,12 @@ impl<'a, E: Metric> Gnat<'a, E> {
 
     // The add of the index, with the tree that it leaves: rebuilt first if every row was in use.
     pub fn add(&mut self, e: E) -> Result<u16, Refusal>
-        requires { GnatSound dist self.old }
-        ensures stays { GnatSound dist self.new }
+        requires { GnatSound E.dist self.old }
+        ensures stays { GnatSound E.dist self.new }
         ensures answer { told result ≡ add_outcome (gnat_meaning self.old) }
         ensures leaves { gnat_meaning self.new ≡ add_leaves (gnat_meaning self.old) e }
-        ensures tree { gnat_tree self.new ≡ tree_with dist self.old e }
-        ensures right { TreeRight dist self.new }
+        ensures tree { gnat_tree self.new ≡ tree_with E.dist self.old e }
+        ensures right { TreeRight E.dist self.new }
         ensures degree { self.new.degree ≡ self.old.degree }
         ensures bucket { self.new.bucket ≡ self.old.bucket }
     {
@@ -158,12 +158,12 @@ impl<'a, E: Metric> Gnat<'a, E> {
 
     // The drop of the index, with the tree that it leaves: a sample in a leaf leaves it, and a pivot is marked.
     pub fn drop(&mut self, number: u16) -> Result<(), Refusal>
-        requires { GnatSound dist self.old }
-        ensures stays { GnatSound dist self.new }
+        requires { GnatSound E.dist self.old }
+        ensures stays { GnatSound E.dist self.new }
         ensures answer { told result ≡ drop_outcome (gnat_meaning self.old) number }
         ensures leaves { gnat_meaning self.new ≡ drop_leaves (gnat_meaning self.old) number }
         ensures tree { gnat_tree self.new ≡ tree_without self.old number }
-        ensures right { TreeRight dist self.new }
+        ensures right { TreeRight E.dist self.new }
         ensures degree { self.new.degree ≡ self.old.degree }
         ensures bucket { self.new.bucket ≡ self.old.bucket }
     {
@@ -184,9 +184,9 @@ impl<'a, E: Metric> Index for Gnat<'a, E> {
 
     ghost meaning = { gnat_meaning };
 
-    ghost sound = { GnatSound dist };
+    ghost sound = { GnatSound E.dist };
 
-    ghost lawful = { gnat_lawful dist };
+    ghost lawful = { gnat_lawful E.dist };
 
     fn add(&mut self, e: E) -> Result<u16, Refusal> {
         Gnat::add(self, e)

@@ -1,4 +1,6 @@
 // The GNAT: an index over a tree of samples that lies in lent rows.
+#![tactic(auto)]
+
 pub mod chosen;
 pub mod gnat;
 mod listing;

@@ -22,7 +22,7 @@ pub(crate) fn refile<E: Metric>(
     requires few { standing ≤ 1024 }
     requires within { Within (take standing (places rows.old)) (length rows.old) }
     requires apart { Distinct (take standing (places rows.old)) }
-    ensures { Refiled dist degree bucket rows.old (take standing (places rows.old)) standing rows.new result }
+    ensures { Refiled E.dist degree bucket rows.old (take standing (places rows.old)) standing rows.new result }
 {
     let mut root = EMPTY;
     for i in 0..standing {

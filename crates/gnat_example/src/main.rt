@@ -1,4 +1,6 @@
 // Poses filed, dropped and found in a GNAT, and settings that are refused.
+#![tactic(auto)]
+
 mod poses;
 mod tell;
 

@@ -18,7 +18,7 @@ fn pose(first: u16, second: u16) -> Arm {
 
 // Poses filed, dropped and found, the same in every index.
 fn poses<I: Index<Element = Arm>>(rt: &HostRuntime, index: &mut I) -> io::Result<()>
-    requires { sound index.old }
+    requires { I.sound index.old }
 {
     let mut list = [Hit {
         number: 0,

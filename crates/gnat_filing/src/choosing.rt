@@ -30,7 +30,7 @@ fn candidate_of<E: Metric>(rows: &[Row<E>], row: u16) -> Candidate
 pub fn candidates<E: Metric>(rows: &[Row<E>], l: &Leaf, at: u16) -> [Candidate; 33]
     requires count { l.now.count ≤ 32 }
     requires within { (((k : ℕ) → k < l.now.count → slice_index l.now.rows k < length rows.now)) × (at < length rows.now) }
-    ensures { ListsCandidates dist rows.now l.now at result }
+    ensures { ListsCandidates E.dist rows.now l.now at result }
 {
     let mut cs = [candidate_of(rows, at); 33];
     for i in 0..l.count as usize {
@@ -73,7 +73,7 @@ fn take_away(cs: &mut [Candidate; 33], j: usize, m: usize)
 // The distance to a pivot counts in.
 fn renewed<E: Metric>(rows: &[Row<E>], c: Candidate, pivot: &E) -> Candidate
     requires { c.row < length rows.now }
-    ensures { Renewed dist rows.now pivot.now c result }
+    ensures { Renewed E.dist rows.now pivot.now c result }
 {
     let element = element_in(rows, c.row as usize);
     Candidate {
@@ -86,7 +86,7 @@ fn renewed<E: Metric>(rows: &[Row<E>], c: Candidate, pivot: &E) -> Candidate
 fn renew<E: Metric>(rows: &[Row<E>], cs: &mut [Candidate; 33], m: usize, pivot: &E)
     requires { (m ≤ 33) × (((k : ℕ) → k < m → (get_or cs.old k blank).row < length rows.now)) }
     ensures long { (length cs.old ≡ 33) × (length cs.new ≡ 33) }
-    ensures each { (k : ℕ) → k < m → Renewed dist rows.now pivot.now (slice_index_or cs.old k blank) (slice_index_or cs.new k blank) }
+    ensures each { (k : ℕ) → k < m → Renewed E.dist rows.now pivot.now (slice_index_or cs.old k blank) (slice_index_or cs.new k blank) }
 {
     for i in 0..m {
         cs[i] = renewed(rows, cs[i], pivot);
@@ -96,8 +96,8 @@ fn renew<E: Metric>(rows: &[Row<E>], cs: &mut [Candidate; 33], m: usize, pivot: 
 // Takes the next pivot out of the first m candidates, and returns its row.
 fn next_pivot<E: Metric>(rows: &[Row<E>], cs: &mut [Candidate; 33], m: usize) -> u16
     requires count { (1 ≤ m) × (m ≤ 33) }
-    requires candidates { SomeCandidates dist rows.now m cs.old }
-    ensures { TakesItsNext dist rows.now m cs.old cs.new result }
+    requires candidates { SomeCandidates E.dist rows.now m cs.old }
+    ensures { TakesItsNext E.dist rows.now m cs.old cs.new result }
 {
     let j = farthest(cs, m);
     let pivot = cs[j].row;
@@ -115,9 +115,9 @@ pub fn choose<E: Metric>(
     degree: usize,
 ) -> [u16; 8]
     requires count { (degree ≤ 8) × ((degree ≤ n) × (n ≤ 33)) }
-    requires candidates { FirstCandidates dist rows.now n cs.old }
+    requires candidates { FirstCandidates E.dist rows.now n cs.old }
     ensures eight { length result ≡ 8 }
-    ensures chosen { ChoosesFirst dist rows.now degree degree n cs.old cs.new result }
+    ensures chosen { ChoosesFirst E.dist rows.now degree degree n cs.old cs.new result }
 {
     let mut pivots = [0u16; 8];
     for c in 0..degree {

@@ -47,8 +47,8 @@ fn is_pivot(b: &Branch, at: u16) -> bool
 // Drops the sample of the row `at` from below a node: it leaves its leaf, or is marked where it is a
 // pivot. The tree below the node is fewer than `left` branches deep.
 pub fn take_out<E: Metric>(rows: &mut [Row<E>], node: Node, at: u16, left: usize) -> Dropped
-    requires { SomeDroppable dist left rows.old node at }
-    ensures { DropsFrom dist left rows.old rows.new node result.node result.freed at }
+    requires { SomeDroppable E.dist left rows.old node at }
+    ensures { DropsFrom E.dist left rows.old rows.new node result.node result.freed at }
 {
     match node {
         Node::Leaf(l) => Dropped {

@@ -17,7 +17,7 @@ fn file_in_leaf<E: Metric>(
 ) -> Node
     requires settings { Settings degree bucket }
     requires leaf { LeafFileable bucket rows.old l at }
-    ensures { Becomes (kept_or_split dist degree bucket) bucket rows.old rows.new l result at }
+    ensures { Becomes (kept_or_split E.dist degree bucket) bucket rows.old rows.new l result at }
 {
     if (l.count as usize) < bucket {
         Node::Leaf(pushed(l, at))
@@ -38,7 +38,7 @@ pub fn file<E: Metric>(
 ) -> Node
     requires settings { Settings degree bucket }
     requires ready { Fileable degree bucket left rows.old node at }
-    ensures { FilesIn dist degree bucket left rows.old rows.new node result at }
+    ensures { FilesIn E.dist degree bucket left rows.old rows.new node result at }
 {
     match node {
         Node::Leaf(l) => file_in_leaf(rows, l, at, degree, bucket),

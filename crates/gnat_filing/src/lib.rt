@@ -1,4 +1,6 @@
 // Filing, splitting and dropping in a GNAT that lies in lent rows.
+#![tactic(auto)]
+
 pub mod choosing;
 pub mod dropping;
 pub mod filing;

@@ -1,6 +1,6 @@
 // Splitting a leaf that has become too large.
 ghost use Rattle.std.specs.Prelude.{◌≡◌, ℕ, ◌+◌, ◌-◌, ◌<◌, ◌≤◌, length, take, slice_index};
-ghost use Rattle.gnat_theory.specs.Splitting.{split as split-of};
+ghost use Rattle.gnat_theory.specs.Splitting.{split as split_of};
 ghost use Rattle.gnat_rows.specs.declared.Leaf.{Leaf as Leaf-record};
 ghost use Rattle.gnat_rows.specs.declared.Node.TheVariants.{Leaf as leaf-node};
 ghost use Rattle.gnat_filing.specs.Choosing.{rows_of};
@@ -50,7 +50,7 @@ fn clear<E: Metric>(rows: &mut [Row<E>], pivots: &[u16; 8], degree: usize)
 // A branch with the ranges of its pivots alone.
 fn bare<E: Metric>(rows: &[Row<E>], pivots: [u16; 8], degree: usize) -> Branch
     requires { (1 ≤ degree) × ((degree ≤ 8) × (((k : ℕ) → k < degree → slice_index pivots k < length rows.now))) }
-    ensures { Bare dist rows.now pivots degree result }
+    ensures { Bare E.dist rows.now pivots degree result }
 {
     let mut b = Branch {
         count: degree as u8,
@@ -70,7 +70,7 @@ fn bare<E: Metric>(rows: &[Row<E>], pivots: [u16; 8], degree: usize) -> Branch
 // Files the sample of the row `at` in the leaf under its nearest pivot.
 fn file_below<E: Metric>(rows: &mut [Row<E>], b: &mut Branch, at: u16)
     requires { BelowFileable rows.old b.old at }
-    ensures { FilesBelow dist rows.old rows.new b.old b.new at }
+    ensures { FilesBelow E.dist rows.old rows.new b.old b.new at }
 {
     let element = element_in(rows, at as usize);
     let j = approach(rows, b, &element);
@@ -82,7 +82,7 @@ fn file_below<E: Metric>(rows: &mut [Row<E>], b: &mut Branch, at: u16)
 // Files the samples of the first m rows, in order.
 fn fill<E: Metric>(rows: &mut [Row<E>], b: &mut Branch, cs: &[Candidate; 33], m: usize)
     requires { (m ≤ 33) × (SomeFillable rows.old b.old (rows_of (take m cs.now))) }
-    ensures { Fills dist m rows.old rows.new b.old b.new (rows_of (take m cs.now)) }
+    ensures { Fills E.dist m rows.old rows.new b.old b.new (rows_of (take m cs.now)) }
 {
     for i in 0..m {
         file_below(rows, b, cs[i].row);
@@ -93,7 +93,7 @@ fn fill<E: Metric>(rows: &mut [Row<E>], b: &mut Branch, cs: &[Candidate; 33], m:
 pub fn split<E: Metric>(rows: &mut [Row<E>], l: Leaf, at: u16, degree: usize) -> Node
     requires leaf { LeafFileable 32 rows.old l at }
     requires degree { (1 ≤ degree) × ((degree ≤ 8) × (degree ≤ l.count)) }
-    ensures { Becomes (split-of dist degree) 32 rows.old rows.new l result at }
+    ensures { Becomes (split_of E.dist degree) 32 rows.old rows.new l result at }
 {
     let mut cs = candidates(rows, &l, at);
     let n = l.count as usize + 1;

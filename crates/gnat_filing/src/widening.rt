@@ -11,7 +11,7 @@ use metric::Metric;
 // The distances of a branch's pivots to an element, each measured once.
 pub fn measured<E: Metric>(rows: &[Row<E>], b: &Branch, e: &E) -> [u32; 8]
     requires { Pivoted rows.now b.now }
-    ensures { Measured dist rows.now b.now e.now result }
+    ensures { Measured E.dist rows.now b.now e.now result }
 {
     let mut ds = [0u32; 8];
     for i in 0..b.count as usize {
@@ -75,7 +75,7 @@ fn widen_column(b: &mut Branch, j: usize, ds: &[u32; 8])
 // Finds the pivot nearest to an element, and widens the ranges to its child.
 pub fn approach<E: Metric>(rows: &[Row<E>], b: &mut Branch, e: &E) -> usize
     requires { Pivoted rows.now b.old }
-    ensures { Approaches dist rows.now e.now b.old b.new result }
+    ensures { Approaches E.dist rows.now e.now b.old b.new result }
 {
     let ds = measured(rows, b, e);
     let j = closest(&ds, b.count as usize);

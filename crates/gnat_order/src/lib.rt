@@ -1,5 +1,7 @@
 // The order of rows: the place fields of all rows, read row by row, list the rows that stand by
 // rising number, then the marked ones, then the free ones.
+#![tactic(auto)]
+
 ghost use Rattle.std.specs.Prelude.{◌≡◌, ◌+◌, ◌<◌, ◌≤◌, length, take, slice_index};
 ghost use Rattle.hits.specs.Samples.{Rising};
 ghost use Rattle.gnat_rows.specs.Rows.{HasRow};

@@ -1,5 +1,7 @@
 // The rows of a GNAT: each has a place for one sample, and for the node below it where the sample is
 // a pivot. Small functions read and write one field of one row.
+#![tactic(auto)]
+
 ghost use Rattle.std.specs.Prelude.{◌≡◌, ◌<◌, length};
 ghost use Rattle.gnat_rows.specs.Rows.{vacant_row, HasRow, with_sample, with_marked, with_place, with_node};
 

@@ -1,4 +1,6 @@
 // Searching a GNAT that lies in lent rows, by a list of pending rows: no recursion, no allocation.
+#![tactic(auto)]
+
 ghost use Rattle.std.specs.Prelude.{◌≡◌, ◌+◌, ◌<◌, ◌≤◌, List, ◌++◌, length, take};
 ghost use Rattle.gnat_theory.specs.Searching.{State, measure, outside as Outside-of};
 ghost use Rattle.gnat_theory.specs.Searching.Sight.{seen};
@@ -95,7 +97,7 @@ fn measure_row<E: Metric>(
 ) -> Found
     requires { (at < length rows.now) × (Room so_far 1) }
     ensures counts { Counted so_far result 1 }
-    ensures keeps { HasRow rows.now at (λ row. Steps (measure dist q.now (want aim (length list.old)) (sample_in row)) list.old list.new so_far result) }
+    ensures keeps { HasRow rows.now at (λ row. Steps (measure E.dist q.now (want aim (length list.old)) (sample_in row)) list.old list.new so_far result) }
 {
     let hit = Hit {
         number: number_in(rows, at),
@@ -115,7 +117,7 @@ fn count_pivot<E: Metric>(
 ) -> Found
     requires { (at < length rows.now) × (Room so_far 1) }
     ensures counts { Counted so_far result 1 }
-    ensures keeps { HasRow rows.now at (λ row. PivotCounted dist distance (pivot_in row) aim list.old list.new so_far result) }
+    ensures keeps { HasRow rows.now at (λ row. PivotCounted E.dist distance (pivot_in row) aim list.old list.new so_far result) }
 {
     if marked_in(rows, at) {
         return Found {
@@ -174,7 +176,7 @@ fn measure_leaf<E: Metric>(
 ) -> Found
     requires { (LeafShown rows.now leaf.now) × (Room so_far 32) }
     ensures counts { Counted so_far result 32 }
-    ensures keeps { LeafMeasured rows.now dist q.now aim leaf.now list.old list.new so_far result }
+    ensures keeps { LeafMeasured rows.now E.dist q.now aim leaf.now list.old list.new so_far result }
 {
     for i in 0..leaf.count as usize {
         so_far = measure_row(rows, leaf.rows[i] as usize, q, aim, list, so_far);
@@ -194,7 +196,7 @@ fn survey<E: Metric>(
 ) -> View
     requires { (BranchShown rows.now branch.now) × (Room so_far 8) }
     ensures counts { Counted so_far result.so_far 8 }
-    ensures keeps { BranchSurveyed rows.now dist q.now aim branch.now list.old list.new so_far result.so_far result.struck }
+    ensures keeps { BranchSurveyed rows.now E.dist q.now aim branch.now list.old list.new so_far result.so_far result.struck }
 {
     let mut struck = [false; 8];
     for i in 0..branch.count as usize {
@@ -229,7 +231,7 @@ fn push_open(branch: &Branch, struck: &[bool; 8], pending: &mut [u16], mut top: 
 // Searches the tree that the rows show from the root on. The rows taken last are visited first.
 pub fn search<E: Metric>(rows: &[Row<E>], root: &Node, q: &E, aim: Aim, list: &mut [Hit]) -> Found
     requires { Searchable rows.now 1024 root.now }
-    ensures { Searched rows.now dist q.now aim root.now list.old list.new result }
+    ensures { Searched rows.now E.dist q.now aim root.now list.old list.new result }
 {
     let mut pending = [0; PENDING];
     let mut top = 0;

@@ -1,5 +1,7 @@
 // The tree of an index: what filing, splitting, dropping, rebuilding and searching do, and the
 // theorems about them. Each function stands for the theorem in its contract, and answers 0.
+#![tactic(auto)]
+
 ghost use Rattle.gnat_theory.specs.Rules.{NearestFirst, Splits, SplitsRoomily};
 ghost use Rattle.gnat_theory.specs.Keeping.{AlwaysKeepsTree, RowsCounted, PrunedIsShrunk};
 ghost use Rattle.gnat_theory.specs.Finding.{OutsideIsBeyond, StruckOutOfReach, SearchExact, AlwaysBounded};
@@ -16,14 +18,14 @@ pub fn nearest_is_first() -> u8
 
 // A split chooses its pivots, fills its leaves and sets its ranges by the rule.
 pub fn splits_by_the_rule<M: Metric>() -> u8
-    ensures { Splits dist }
+    ensures { Splits M.dist }
 {
     0
 }
 
 // With a bucket of twice the degree, a split leaves more samples in leaves than it takes as pivots.
 pub fn splits_roomily<M: Metric>() -> u8
-    ensures { SplitsRoomily dist }
+    ensures { SplitsRoomily M.dist }
 {
     0
 }
@@ -31,42 +33,42 @@ pub fn splits_roomily<M: Metric>() -> u8
 // The empty leaf, filing, dropping, rebuilding and adding each leave a tree of just the samples
 // that stand, with all ranges right and no leaf too large.
 pub fn keeps_its_tree<M: Metric>() -> u8
-    ensures { AlwaysKeepsTree dist }
+    ensures { AlwaysKeepsTree M.dist }
 {
     0
 }
 
 // The rows of a tree are its pivots and the samples in its leaves.
 pub fn rows_are_counted<M: Metric>() -> u8
-    ensures { RowsCounted dist }
+    ensures { RowsCounted M.dist }
 {
     0
 }
 
 // A sample in a leaf can be dropped on the way down to its nearest pivots: nothing else changes.
 pub fn pruned_is_shrunk<M: Metric>() -> u8
-    ensures { PrunedIsShrunk dist }
+    ensures { PrunedIsShrunk M.dist }
 {
     0
 }
 
 // What a range shows to be out of reach is out of reach.
 pub fn outside_is_beyond<M: Metric>() -> u8
-    ensures { OutsideIsBeyond dist }
+    ensures { OutsideIsBeyond M.dist }
 {
     0
 }
 
 // A struck child holds no sample within the reach that the search had.
 pub fn struck_is_out_of_reach<M: Metric>() -> u8
-    ensures { StruckOutOfReach dist }
+    ensures { StruckOutOfReach M.dist }
 {
     0
 }
 
 // The search finds exactly the hits that are wanted, and measures no more than there are rows.
 pub fn search_is_exact<M: Metric>() -> u8
-    ensures { SearchExact dist }
+    ensures { SearchExact M.dist }
 {
     0
 }
@@ -74,7 +76,7 @@ pub fn search_is_exact<M: Metric>() -> u8
 // The list of pending trees never has more than one place more than the tree has pivots, and the
 // search by it ends.
 pub fn pending_is_bounded<M: Metric>() -> u8
-    ensures { AlwaysBounded dist }
+    ensures { AlwaysBounded M.dist }
 {
     0
 }

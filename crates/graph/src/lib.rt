@@ -1,4 +1,6 @@
 // Islands and routes over the edge records of a roadmap, by place.
+#![tactic(auto)]
+
 ghost use Rattle.std.specs.Prelude.{◌≡◌, ◌*◌, ◌<◌, ◌≤◌, length};
 ghost use Rattle.chains.specs.Chains.{Island};
 ghost use Rattle.chains.specs.Edges.{Linked};

@@ -1,4 +1,6 @@
 // Histories of calls, played on roadmaps.
+#![tactic(auto)]
+
 ghost use Rattle.std.specs.Prelude.{◌≡◌, ℕ, length, Ok, Err};
 ghost use Rattle.index.specs.Meaning.{fresh};
 ghost use Rattle.roadmap.specs.Roads.{road_of, RoadSound};

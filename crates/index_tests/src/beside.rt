@@ -71,7 +71,7 @@ fn ask_near<I: Index<Element = Card>>(
     k: usize,
     list: &mut [Hit],
 ) -> Result<(), Fail>
-    requires { sound index.now }
+    requires { I.sound index.now }
 {
     list.fill(MARK);
     let answer = index.near(q, k, list);
@@ -92,7 +92,7 @@ fn ask_within<I: Index<Element = Card>>(
     radius: u32,
     list: &mut [Hit],
 ) -> Result<(), Fail>
-    requires { sound index.now }
+    requires { I.sound index.now }
 {
     list.fill(MARK);
     let count = index.within(q, radius, list);
@@ -109,8 +109,8 @@ pub fn call_both<I: Index<Element = Card>>(
     random: &mut Random,
     list: &mut [Hit],
 ) -> Result<(), Fail>
-    requires { sound index.old }
-    ensures { sound index.new }
+    requires { I.sound index.old }
+    ensures { I.sound index.new }
 {
     let card = some_card(random);
     let (_, _, last) = index.tally();

@@ -1,4 +1,6 @@
 // Indexes beside a plain model: the same random calls, and every answer, refusal and list compared.
+#![tactic(auto)]
+
 #[cfg(test)]
 mod beside;
 #[cfg(test)]

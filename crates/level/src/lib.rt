@@ -1,4 +1,6 @@
 // Level files: reading one into a level, or naming its first fault.
+#![tactic(auto)]
+
 mod level;
 mod reader;
 mod reading;

@@ -1,5 +1,7 @@
 // Plays the level files in data/ and compares what would be printed with the answers beside them. An independent
 // program made those, by exhaustive means.
+#![tactic(auto)]
+
 use play::show;
 use std::fs;
 

@@ -1,4 +1,6 @@
 // Plays the level on standard input, and prints its answer lines. A level fault adds a last line.
+#![tactic(auto)]
+
 ghost use Rattle.std.specs.Prelude.{◌≤◌, length, IfOk};
 
 use play::show;

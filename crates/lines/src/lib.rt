@@ -1,4 +1,6 @@
 // The lines of a level file: what each says, and what is wrong with it.
+#![tactic(auto)]
+
 pub mod calls;
 pub mod counts;
 pub mod fault;

@@ -1,4 +1,6 @@
 // The edge records of a roadmap: one for each standing sample, by rising number.
+#![tactic(auto)]
+
 ghost use Rattle.std.specs.Prelude.{◌≡◌, ◌*◌, ◌<◌, ◌≤◌, map, length, replicate};
 ghost use Rattle.std.specs.List.{AllByRecursion as All};
 ghost use Rattle.chains.specs.Edges.{Rises};

@@ -1,4 +1,6 @@
 // A kind of element: a distance with its laws, and the length of a path of elements.
+#![tactic(auto)]
+
 ghost use Rattle.std.specs.Prelude.{◌≡◌, ℕ};
 ghost use Rattle.metric.specs.Laws.{MetricLaws};
 ghost use Rattle.metric.specs.Paths.{measured};
@@ -26,7 +28,7 @@ pub trait Metric: Copy {
 // How long a path of elements is: the sum of its steps. A path has at most 1,024 elements, and
 // the laws then keep the sum within 32 bits; a longer one has no answer.
 pub fn path_length<M: Metric>(path: &[M]) -> Option<u32>
-    ensures { result ≡ measured dist path.now }
+    ensures { result ≡ measured M.dist path.now }
 {
     if path.len() > 1024 {
         return None;

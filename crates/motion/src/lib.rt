@@ -1,4 +1,6 @@
 // The motion of an arm from one pose to another: how many steps it has, and the pose at each.
+#![tactic(auto)]
+
 ghost use Rattle.std.specs.Prelude.{◌≡◌, ◌*◌, ◌<◌, ◌≤◌, reverse, unsigned_abs};
 ghost use Rattle.turning.specs.Circle.{floor, RoundsDown};
 ghost use Rattle.turning.specs.Motions.{turned, joint_at, pose_at, steps_of, motion};

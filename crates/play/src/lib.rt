@@ -1,4 +1,6 @@
 // A level file, played: read whole, then its calls made on a roadmap, each answered by a line.
+#![tactic(auto)]
+
 mod fault;
 mod kinds;
 mod playing;

@@ -1,4 +1,6 @@
 // Lines of a word and numbers, written into an output.
+#![tactic(auto)]
+
 ghost use Rattle.std.specs.Prelude.{◌≡◌, ◌+◌, ◌≤◌, ◌∷◌, map, length, decimal};
 ghost use Rattle.printing.specs.Outputs.{written, word_line, put_outcome, put_leaves};
 

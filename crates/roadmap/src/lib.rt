@@ -1,4 +1,6 @@
 // The roadmap: samples in an index, and edges between near ones that a checker passes.
+#![tactic(auto)]
+
 ghost use Rattle.std.specs.Prelude.{◌≡◌, ℕ, ◌+◌, ◌<◌, ◌≤◌, length, slice_set};
 ghost use Rattle.index.specs.Meaning.{Meaning, added};
 ghost use Rattle.index.specs.Outcomes.{told, gives};

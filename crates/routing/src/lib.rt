@@ -1,4 +1,6 @@
 // Shortest chains over a list of edges, by costs that are lowered while one can be.
+#![tactic(auto)]
+
 ghost use Rattle.std.specs.Prelude.{◌≡◌, ℕ, ◌+◌, ◌-◌, ◌%◌, ◌<◌, ◌≤◌, cond, ◌&&◌, length};
 ghost use Rattle.std.specs.List.{AllByRecursion as All};
 ghost use Rattle.chains.specs.Edges.{Inside};

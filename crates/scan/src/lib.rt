@@ -1,3 +1,5 @@
 // The scan: an index that measures every standing sample.
+#![tactic(auto)]
+
 pub mod rows;
 pub mod scan;

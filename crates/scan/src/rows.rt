@@ -64,8 +64,8 @@ pub(crate) fn close_up<E: Metric>(rows: &mut [Row<E>], at: usize, used: usize)
 // Counts the rows at most `radius` away from the query, and keeps the nearest of them in the list.
 pub(crate) fn gather<E: Metric>(rows: &[Row<E>], q: &E, radius: u32, list: &mut [Hit]) -> usize
     requires { Rising 0 65535 (samples rows.now) }
-    ensures count { result ≡ length (inside radius (hits dist q.now (samples rows.now))) }
-    ensures writes { list.new ≡ over (take (length list.old) (inside radius (hits dist q.now (samples rows.now)))) list.old }
+    ensures count { result ≡ length (inside radius (hits E.dist q.now (samples rows.now))) }
+    ensures writes { list.new ≡ over (take (length list.old) (inside radius (hits E.dist q.now (samples rows.now)))) list.old }
 {
     let mut found = 0;
     let mut held = 0;

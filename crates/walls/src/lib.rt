@@ -1,4 +1,6 @@
 // Walls for arms: an arc for each joint.
+#![tactic(auto)]
+
 mod arc;
 mod wall;
 

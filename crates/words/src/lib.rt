@@ -1,4 +1,6 @@
 // The words of a line, one after another, and the numbers that they write.
+#![tactic(auto)]
+
 mod cursor;
 mod cutting;
 mod digits;

@@ -1,5 +1,7 @@
 // The worked values: examples at the edges of the rules, proved of the definitions that the
 // contracts of the other crates cite.
+#![tactic(auto)]
+
 ghost use Rattle.std.specs.Prelude.{◌≡◌, length};
 ghost use Rattle.worked.specs.Values.{EachHolds, values};
 

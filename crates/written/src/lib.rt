@@ -1,4 +1,6 @@
 // Kinds of element that a level file can have.
+#![tactic(auto)]
+
 mod arms;
 mod cards;
 mod numbers;
