@@ -12,7 +12,9 @@ WORDS = [
     (r"\boverflow-(add|sub|mul|shl|shr|cast|step|neg)\b", r"overflow_\1"),
     (r"\b(offset|slice)-bounds-", r"\1_bounds-"),
     (r"\bnonzero-(div|rem)\b", r"nonzero_\1"),
-    (r"\bout-of-range\b", "out_of_range"),
+    (r"\.type-inv\b", ".type_inv"),
+    (r"\bfrom-residual\b", "from_residual"),
+    (r"\bin-(ok|err|default)\b", r"in_\1"),
 ]
 
 
@@ -41,6 +43,7 @@ def main():
                     for old, word in WORDS:
                         new = re.sub(old, word, new)
                     new = pattern.sub(lambda m: dashed[m.group(1)], new)
+                    new = re.sub(r"(loop-(\w+)\.\2)_index\b", r"\1-index", new)
                 out.append(new)
             open(path, "w", encoding="utf-8").write("\n".join(out))
 

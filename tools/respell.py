@@ -74,7 +74,7 @@ def declared():
     return names, fields
 
 
-def rename(line, table, fields, kept, of_goal):
+def rename(line, table, fields, kept, of_goal, aliases=frozenset()):
     def one(match):
         word, start = match.group(0), match.start()
         if word not in table or word in kept:
@@ -85,7 +85,7 @@ def rename(line, table, fields, kept, of_goal):
         if before.endswith("."):
             root = re.search(r"([^\s(){}\[\],;]+)\.$", before)
             head = root.group(1) if root else ""
-            if head.startswith("Rattle."):
+            if head.startswith("Rattle.") or head in aliases:
                 return table[word]
             if of_goal and head in ("c", "w", "l", "v", "u"):
                 return word
@@ -113,6 +113,7 @@ def main():
             match = re.match(r"^\s*pub (" + WORD + r") : goal\.", line)
             if match:
                 kept.add(match.group(1))
+        aliases = set(re.findall(r"^\s*use \S+ as (\S+)", text, re.M)) | {m.rsplit(".", 1)[-1] for m in re.findall(r"^\s*use ([^\s{]+)$", text, re.M)}
         out = []
         for line in text.split("\n"):
             code, dash, comment = line, "", ""
@@ -120,7 +121,7 @@ def main():
             if at >= 0:
                 code, dash, comment = line[:at], "-- ", line[at + 3 :]
                 comment = re.sub(r"`([^`]*)`", lambda m: "`" + rename(m.group(1), table, fields, kept, False) + "`", comment)
-            out.append(rename(code, table, fields, kept, of_function(path)) + dash + comment)
+            out.append(rename(code, table, fields, kept, of_function(path), aliases) + dash + comment)
         new = "\n".join(out)
         if new != text:
             open(path, "w", encoding="utf-8").write(new)

@@ -93,7 +93,7 @@ module _ (links : List Links) (good : Good links) (goal : ℕ) (edges : List Edg
   joined_goal i l = let w = settling.worth (take n edges) goal costs few inside s.settled i l in record { numbers = w.numbers; long = w.long; joins = w.joins }
 
   goal_joined : (i : ℕ) → Joined (λ i. i < length costs) (Linked (take n edges)) i goal → cost_at costs i < none
-  goal_joined i j = settling.reached-all (take n edges) goal costs few inside s.settled i j.numbers j.long j.joins
+  goal_joined i j = settling.reached_all (take n edges) goal costs few inside s.settled i j.numbers j.long j.joins
 
   pub somewhere : Somewhere links costs
   somewhere = record { long = s.long; place = goal; inside = omega (arith, s.long, s.settled.attained.inside); cost = omega (arith, s.settled.attained.start) }
@@ -128,7 +128,7 @@ module _ (links : List Links) (good : Good links) (goal : ℕ) (edges : List Edg
 
     pub reads : (ns : List ℕ) (l : ℕ) → Route (λ i. i < length costs) (Linked (take n edges)) start goal ns l → Reads ns l (get_or costs start 0)
     reads ns l r =
-        let c = settling.route-costs (take n edges) goal costs few inside s.settled start ns l r in
+        let c = settling.route_costs (take n edges) goal costs few inside s.settled start ns l r in
         let e = get_or_default costs start 0 none (omega (arith, s.long)) in
         let one = starts_pos ns r.joins.starts in
         record {

@@ -35,7 +35,7 @@ module _ {E : Type 0} (dist : E → E → ℕ) (top : ℕ) (laws : MetricLaws to
 
   route_given : (x y : ℕ) (list : List ℕ) (a : Reply E) (o : Outcome (ℕ × ℕ)) (w : List ℕ) → a ≡ reply_of (λ z. leads z.0 z.1) o → RouteTold road x y list o w → RouteGiven dist h x y list a w
   route_given x y list a o w e (told.no_start f) = (let P : Reply E → Type 0 = λ z. RouteGiven dist h x y list z list in subst P (sym e) (no_start (none x f)))
-  route_given x y list a o w e (told.no-goal s f) = (let P : Reply E → Type 0 = λ z. RouteGiven dist h x y list z list in subst P (sym e) (no_goal (stands x s) (none y f)))
+  route_given x y list a o w e (told.no_goal s f) = (let P : Reply E → Type 0 = λ z. RouteGiven dist h x y list z list in subst P (sym e) (no_goal (stands x s) (none y f)))
   route_given x y list a o w e (told.between p v s t q) = (let P : Reply E → Type 0 = λ z. RouteGiven dist h x y list z v in subst P (sym e) (between (stands x s) (stands y t) p v (routed_given x y list p v q)))
 
   pub gives_of : (q : Asked E) (a : Reply E) (l : Lists) (after : Road E) → Tells dist road q a l after → Gives dist h q a l

@@ -49,15 +49,15 @@ abbrev mix_pairs : MixChecker → Card → Card → Bool
 mix_pairs c = mix_passes c.walls.now
 
 -- levels of arms
-pub arms_answered : (checker : StepChecker) (walls : List Wall) (lent lines : List (CallLine Arm)) (k : ℕ) (out : List ℕ) (o : Outcome ℕ) (after : List ℕ) → checker.walls.now ≡ walls → lent ≡ lines → Answered pose_distance (start k 64) (map (λ l. set_call step_pairs (line_call l checker)) lent) blank_lists 0 0 out o after → KindAnswered arms k (map arm_written.wall_numbers walls) (map (call_shown arm_written.arm-numbers) lines) out o after
+pub arms_answered : (checker : StepChecker) (walls : List Wall) (lent lines : List (CallLine Arm)) (k : ℕ) (out : List ℕ) (o : Outcome ℕ) (after : List ℕ) → checker.walls.now ≡ walls → lent ≡ lines → Answered pose_distance (start k 64) (map (λ l. set_call step_pairs (line_call l checker)) lent) blank_lists 0 0 out o after → KindAnswered arms k (map arm_written.wall_numbers walls) (map (call_shown arm_written.arm_numbers) lines) out o after
 arms_answered checker walls lent lines k out o after e f x =
     let P : List (Call Arm (Pairs Arm)) → Type 0 = λ cs. Answered pose_distance (start k 64) cs blank_lists 0 0 out o after in
-    let pairs : step_passes (map arm_written.wall-of (map arm_written.wall_numbers walls)) ≡ step_passes checker.walls.now = ap step_passes (built_back arm_written.wall_numbers arm_written.wall-of arm_written.wall-faithful walls ∙ sym e) in
-    subst P (ap (map (λ l. set_call step_pairs (line_call l checker))) f ∙ sym (all_calls arm_written.arm-numbers arm_written.arm-of arm_written.arm-faithful step_pairs checker (step_passes (map arm_written.wall-of (map arm_written.wall_numbers walls))) pairs lines)) x
+    let pairs : step_passes (map arm_written.wall_of (map arm_written.wall_numbers walls)) ≡ step_passes checker.walls.now = ap step_passes (built_back arm_written.wall_numbers arm_written.wall_of arm_written.wall_faithful walls ∙ sym e) in
+    subst P (ap (map (λ l. set_call step_pairs (line_call l checker))) f ∙ sym (all_calls arm_written.arm_numbers arm_written.arm_of arm_written.arm_faithful step_pairs checker (step_passes (map arm_written.wall_of (map arm_written.wall_numbers walls))) pairs lines)) x
 
 -- levels of cards
-pub cards_answered : (checker : MixChecker) (walls : List CardWall) (lent lines : List (CallLine Card)) (k : ℕ) (out : List ℕ) (o : Outcome ℕ) (after : List ℕ) → checker.walls.now ≡ walls → lent ≡ lines → Answered card_distance (start k 64) (map (λ l. set_call mix_pairs (line_call l checker)) lent) blank_lists 0 0 out o after → KindAnswered cards k (map card-written.wall_numbers walls) (map (call_shown card-written.card-numbers) lines) out o after
+pub cards_answered : (checker : MixChecker) (walls : List CardWall) (lent lines : List (CallLine Card)) (k : ℕ) (out : List ℕ) (o : Outcome ℕ) (after : List ℕ) → checker.walls.now ≡ walls → lent ≡ lines → Answered card_distance (start k 64) (map (λ l. set_call mix_pairs (line_call l checker)) lent) blank_lists 0 0 out o after → KindAnswered cards k (map card-written.wall_numbers walls) (map (call_shown card-written.card_numbers) lines) out o after
 cards_answered checker walls lent lines k out o after e f x =
     let P : List (Call Card (Pairs Card)) → Type 0 = λ cs. Answered card_distance (start k 64) cs blank_lists 0 0 out o after in
-    let pairs : mix_passes (map card-written.wall-of (map card-written.wall_numbers walls)) ≡ mix_passes checker.walls.now = ap mix_passes (built_back card-written.wall_numbers card-written.wall-of card-written.wall-faithful walls ∙ sym e) in
-    subst P (ap (map (λ l. set_call mix_pairs (line_call l checker))) f ∙ sym (all_calls card-written.card-numbers card-written.card-of card-written.card-faithful mix_pairs checker (mix_passes (map card-written.wall-of (map card-written.wall_numbers walls))) pairs lines)) x
+    let pairs : mix_passes (map card-written.wall_of (map card-written.wall_numbers walls)) ≡ mix_passes checker.walls.now = ap mix_passes (built_back card-written.wall_numbers card-written.wall_of card-written.wall_faithful walls ∙ sym e) in
+    subst P (ap (map (λ l. set_call mix_pairs (line_call l checker))) f ∙ sym (all_calls card-written.card_numbers card-written.card_of card-written.card_faithful mix_pairs checker (mix_passes (map card-written.wall_of (map card-written.wall_numbers walls))) pairs lines)) x

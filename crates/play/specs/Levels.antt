@@ -27,7 +27,7 @@ level_call made passes (call_route a b) = call.Route a b 64
 -- the calls of a level of arms are checked by Step over its walls, those of a level of cards by Mix
 abbrev pub KindAnswered : Kind → ℕ → List (List ℕ) → List LineCall → List ℕ → Outcome ℕ → List ℕ → Type 0
 KindAnswered arms k walls calls out o after = Answered pose_distance (start k 64) (map (level_call arm_of (step_passes (map wall_of walls))) calls) blank_lists 0 0 out o after
-KindAnswered cards k walls calls out o after = Answered card_distance (start k 64) (map (level_call cards-written.card-of (mix_passes (map cards-written.wall-of walls))) calls) blank_lists 0 0 out o after
+KindAnswered cards k walls calls out o after = Answered card_distance (start k 64) (map (level_call cards-written.card_of (mix_passes (map cards-written.wall_of walls))) calls) blank_lists 0 0 out o after
 
 -- A level's calls are answered on a roadmap over a fresh index of capacity 64, by lines in the output. Neither degree nor
 -- bucket has a part in it.

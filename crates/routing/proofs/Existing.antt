@@ -43,9 +43,9 @@ module _ (edges : List Edge) (goal : ℕ) (costs : List ℕ) (few : length costs
 
   from_goal : (at : ℕ) → cost_at costs at ≡ 0 → ChosenFrom at
   from_goal at z =
-      let e = settling.goal-only edges goal costs few all settled at z in
+      let e = settling.goal_only edges goal costs few all settled at z in
       let P : ℕ → Type 0 = λ i. Route (λ i. i < length costs) (Linked edges) i goal (i ∷ []) 0 in
-      record { numbers = at ∷ []; long = 0; route = subst P (sym e) (settling.route-goal edges goal costs few all settled) }
+      record { numbers = at ∷ []; long = 0; route = subst P (sym e) (settling.route_goal edges goal costs few all settled) }
 
   chosen_by : (fuel at : ℕ) → cost_at costs at ≤ fuel → cost_at costs at < none → ChosenFrom at
   chosen_by zero at f l = from_goal at (omega arith)
@@ -62,7 +62,7 @@ module _ (edges : List Edge) (goal : ℕ) (costs : List ℕ) (few : length costs
           record {
             numbers = at ∷ r.numbers;
             long = j.0 + r.long;
-            route = settling.route-onward edges goal costs few all settled at o.0 j.0 r.long r.numbers o.1 j.1 j.2 r.route;
+            route = settling.route_onward edges goal costs few all settled at o.0 j.0 r.long r.numbers o.1 j.1 j.2 r.route;
           }
 
   pub chosen_from : (at : ℕ) → cost_at costs at < none → ChosenFrom at

@@ -192,8 +192,8 @@ module _ (edges : List Edge) (goal : ℕ) (costs : List ℕ) (few : length costs
         let low : cost_at costs r < none = omega (arith, j.2, w.reached) in
         let u = settling.worth edges goal costs few all settled at w.reached in
         let v = settling.worth edges goal costs few all settled r low in
-        let fu = settling.worth-few edges goal costs few all settled at w.reached u in
-        let fv = settling.worth-few edges goal costs few all settled r low v in
+        let fu = settling.worth_few edges goal costs few all settled at w.reached u in
+        let fv = settling.worth_few edges goal costs few all settled r low v in
         let mu = mod_of (cost_at costs at) u.long u.steps u.is (omega arith) in
         let mv = mod_of (cost_at costs r) v.long v.steps v.is (omega arith) in
         let one : u.steps ≡ v.steps + 1 = omega (arith, j.2, u.is, v.is) in
@@ -204,16 +204,16 @@ module _ (edges : List Edge) (goal : ℕ) (costs : List ℕ) (few : length costs
           count = length-append w.places (at ∷ []) ∙ omega (arith, w.count);
           writes = ap (λ z. set z written at) w.writes ∙ over_set w.places old written at w.count (walk_room room);
           back = λ ns l q.
-              let x = w.back (at ∷ ns) (j.0 + l) (settling.route-onward edges goal costs few all settled at r j.0 l ns o j.1 j.2 q) in
+              let x = w.back (at ∷ ns) (j.0 + l) (settling.route_onward edges goal costs few all settled at r j.0 l ns o j.1 j.2 q) in
               let P : List ℕ → Type 0 = λ z. Route (λ i. i < length costs) (Linked edges) start goal z x.0 in
               (x.0, subst P (sym (append_assoc w.places (at ∷ []) ns)) x.1);
         }
 
     pub walk_ends : cost_at costs at ≡ 0 → cost_at costs start % 65536 < length old → Walked edges costs start goal old (set list written at)
     walk_ends z room =
-        let e = settling.goal-only edges goal costs few all settled at z in
+        let e = settling.goal_only edges goal costs few all settled at z in
         let P : ℕ → Type 0 = λ i. Route (λ i. i < length costs) (Linked edges) i goal (i ∷ []) 0 in
-        let x = w.back (at ∷ []) 0 (subst P (sym e) (settling.route-goal edges goal costs few all settled)) in
+        let x = w.back (at ∷ []) 0 (subst P (sym e) (settling.route_goal edges goal costs few all settled)) in
         record {
           numbers = w.places ++ (at ∷ []);
           long = x.0;

@@ -35,8 +35,8 @@ loop-child-preserved c =
       )
     ]
 
-pub returns-in-default : goal.returns-in-default
-returns-in-default c = λ ss long f. quiet_flags c.args.branch.now c.args.struck ss _ (strikes_none c.args.reach c.args.distance c.in-default.not-Some) f
+pub returns-in_default : goal.returns-in_default
+returns-in_default c = λ ss long f. quiet_flags c.args.branch.now c.args.struck ss _ (strikes_none c.args.reach c.args.distance c.in_default.not-Some) f
 
 pub returns : goal.returns
 returns c = λ ss long f.

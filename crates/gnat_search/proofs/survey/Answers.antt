@@ -58,7 +58,7 @@ loop-i-preserved g c =
           let same : read.0 ≡ row = same_row rows (get_or b.pivots i 0) read.0 row read.1 found.1 in
           let far : s.distance-distance.result ≡ dist q row.element = s.distance-distance.ensures ∙ ap (dist q) (read.2 ∙ ap (λ r. r.element) same) in
           let long : length s.count_pivot-counted.new.list ≡ length c.args.list.now = s.count_pivot-counted.auto.list ∙ c.loop-i.auto.list in (
-            ap length s.struck-is ∙ (let ok = s.strike-struck.type-inv in search rules),
+            ap length s.struck-is ∙ (let ok = s.strike-struck.type_inv in search rules),
             subst (λ z. Counted c.args.so_far z (i + 1)) (sym s.so_far-is) (record { shown = counted.counts.shown; few = counted.counts.few; most = omega (arith, counted.counts.most, c.loop-i.invariant.1.most) }),
             (λ ps fs n t old st k.
                 surveyed_as rows dist q w b ps st old (i + 1) s.strike-struck.result c.if-not-struck-i.struck s.count_pivot-counted.new.list c.if-not-struck-i.list s.count_pivot-counted.result c.if-not-struck-i.so_far s.struck-is s.list-is s.so_far-is

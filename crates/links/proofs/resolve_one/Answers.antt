@@ -7,7 +7,7 @@ use Rattle.links.specs.declared.Links.{Links}
 use Rattle.links.specs.Records.{Sound, elders}
 use Rattle.links.proofs.Resolving.{SoFar, number_is, none_so_far, so_far_not, so_far_more, so_far_as, one_more, record_sound, elder_short}
 use Rattle.links.proofs.resolve_one.Goals as goal
-use Rattle.links.proofs.resolve_one.Goals.{in-Some, in-default}
+use Rattle.links.proofs.resolve_one.Goals.{in-Some, in_default}
 
 pub overflow_cast-i-end : goal.overflow_cast-i-end
 overflow_cast-i-end c = let s = record_sound c.args.links.now c.args.at c.requires.inside.0 c.requires.good.sound in omega (arith, s.count_bound)
@@ -54,9 +54,9 @@ loop-i-preserved c =
           let f = w.in-Some.ensures in
           so_far_as links r old made _ _ _ _ (i + 1) w.edges-is w.all-is
           (so_far_more links r old made c.loop-i.edges c.loop-i.all i c.loop-i.invariant l h is w.in-Some.place at room f.0 c.requires.inside.0 f.1 (sym (number_is links at (record { number = 0; count = 0; elders = [] }) c.requires.inside.0)) (elder_short r i s c.loop-i-test.true))
-      | in-default w ↦
+      | in_default w ↦
           so_far_as links r old made _ _ _ _ (i + 1) w.edges-is w.all-is
-          (so_far_not links r old made c.loop-i.edges c.loop-i.all i c.loop-i.invariant l h is w.in-default.ensures)
+          (so_far_not links r old made c.loop-i.edges c.loop-i.all i c.loop-i.invariant l h is w.in_default.ensures)
     ]
 
 pub returns : goal.returns

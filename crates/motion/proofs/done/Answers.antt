@@ -17,7 +17,7 @@ returns-then-n-eq0 c = record {
 pub returns : goal.returns
 returns c =
     let same : to_z w32 (of_z w32 c.floor_div.result) ≡ turned c.args.turn c.args.n c.args.t =
-    to_z-of_z w32 _ (record { sfits = c.floor_div.type-inv })
+    to_z-of_z w32 _ (record { sfits = c.floor_div.type_inv })
     ∙ c.floor_div.ensures.value
     ∙ ap (λ z. floor z c.args.n) (product_held _ _ c.args.turn c.args.t (to_z-of_z w32 _ c.ranges.turn) (omega (arith, ints)) c.requires (omega arith))
     ∙ sym (turned_some c.args.turn c.args.n c.args.t (omega arith)) in

@@ -5,7 +5,7 @@ use Rattle.printing.proofs.Words.{tail_of, tail_len, line_len}
 use Rattle.printing.proofs.line_len.Goals as goal
 
 short : (c : goal.After-decimal_len) → length (decimal (get_or c.args.numbers.now c.loop-n.n-index 0)) ≤ 20
-short c = length-decimal-le 20 (get_or c.args.numbers.now c.loop-n.n-index 0) (lit< tt) (omega (arith, c.type-inv.numbers c.loop-n.n-index)) (omega (arith, c.type-inv.numbers c.loop-n.n-index))
+short c = length-decimal-le 20 (get_or c.args.numbers.now c.loop-n.n-index 0) (lit< tt) (omega (arith, c.type_inv.numbers c.loop-n.n-index)) (omega (arith, c.type_inv.numbers c.loop-n.n-index))
 
 pub overflow_add-len-in-loop-n : goal.overflow_add-len-in-loop-n
 overflow_add-len-in-loop-n c = omega (arith, short c)

@@ -2,7 +2,7 @@ use Rattle.std.proofs.Common.{◌≡◌, ℕ, ◌+◌, ◌<◌, ◌≤◌, List,
 use Rattle.roadmap.proofs.Linking.{element_none, element_some}
 use Rattle.roadmap.proofs.Filling.{Filling, fill_starts, fill_ends, fill_not, fill_more, fill_room, filling_as}
 use Rattle.roadmap.proofs.fill_in.Goals as goal
-use Rattle.roadmap.proofs.fill_in.Goals.{in-Ok, in-default}
+use Rattle.roadmap.proofs.fill_in.Goals.{in-Ok, in_default}
 
 pub loop-before-init : goal.loop-before-init
 loop-before-init g c = fill_starts (g.I.Index.meaning c.args.index.now) (g.I.Index.lawful c.args.index.now c.requires.0) c.args.links.now
@@ -23,7 +23,7 @@ loop-before-preserved g c =
     let k = c.loop-before.auto.links in
     elim c.match-element.branch [
       | in-Ok w ↦ filling_as m (n + 1) _ _ _ _ w.used-is w.links-is (fill_more m law n used links c.loop-before.invariant _ (element_some m n _ w.in-Ok.ensures) (omega (arith, c.requires.1.1)) w.unlinked.result w.unlinked.ensures)
-      | in-default w ↦ filling_as m (n + 1) _ _ _ _ w.used-is w.links-is (fill_not m law n used links c.loop-before.invariant (element_none m n _ _ w.in-default.ensures))
+      | in_default w ↦ filling_as m (n + 1) _ _ _ _ w.used-is w.links-is (fill_not m law n used links c.loop-before.invariant (element_none m n _ _ w.in_default.ensures))
     ]
 
 pub returns : goal.returns

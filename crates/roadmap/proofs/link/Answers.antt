@@ -4,7 +4,7 @@ use Rattle.hits.specs.declared.Hit.{Hit}
 use Rattle.roadmap.specs.Calls.{passes_with, passes_hit}
 use Rattle.roadmap.proofs.Linking.{SoFar, element_none, element_some, link_not, link_more, link_starts, link_ends, so_far_as}
 use Rattle.roadmap.proofs.link.Goals as goal
-use Rattle.roadmap.proofs.link.Goals.{in-Ok+then-check, in-Ok+else-check, in-default}
+use Rattle.roadmap.proofs.link.Goals.{in-Ok+then-check, in-Ok+else-check, in_default}
 
 pub loop-i-init : goal.loop-i-init
 loop-i-init g c = link_starts (g.C.Checker.passes c.args.checker.now) c.args.e.now (g.I.Index.meaning c.args.index.now) c.args.number c.args.hits.now c.unlinked-own.result c.unlinked-own.ensures
@@ -29,8 +29,8 @@ loop-i-preserved g c =
       | in-Ok+else-check w ↦
           let x = element_some m h.number w.in-Ok.elder w.in-Ok.ensures in
           so_far_as p e m n hits (i + 1) _ _ _ _ w.own-is w.count-is (link_not p e m n hits i own count c.loop-i.invariant l h is (ap (passes_with p e) x ∙ (sym w.check.ensures ∙ w.if-check.false)))
-      | in-default w ↦
-          let x = element_none m h.number _ _ w.in-default.ensures in
+      | in_default w ↦
+          let x = element_none m h.number _ _ w.in_default.ensures in
           so_far_as p e m n hits (i + 1) _ _ _ _ w.own-is w.count-is (link_not p e m n hits i own count c.loop-i.invariant l h is (ap (passes_with p e) x))
     ]
 

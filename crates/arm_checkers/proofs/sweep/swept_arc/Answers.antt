@@ -8,7 +8,7 @@ use Rattle.arm_checkers.proofs.sweep.swept_arc.Goals as goal
 use Rattle.arm_checkers.proofs.sweep.swept_arc.Goals.{then-turn-ge0, else-turn-ge0}
 
 turning : (c : goal.After-unsigned_abs) → to_z w32 (of_z w32 c.turn-turn.result) ≡ turn_of c.args.from c.args.to
-turning c = to_z-of_z w32 _ (record { sfits = c.turn-turn.type-inv }) ∙ c.turn-turn.ensures.value
+turning c = to_z-of_z w32 _ (record { sfits = c.turn-turn.type_inv }) ∙ c.turn-turn.ensures.value
 
 starts : (c : goal.After-unsigned_abs) → c.if-turn-ge0.start ≡ swept_from c.args.from c.args.to
 unfolding swept_from

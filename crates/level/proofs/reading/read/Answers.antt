@@ -16,41 +16,41 @@ use Rattle.level.proofs.reading.read.Goals as goal
 pub returns-then-bytes-gt65536 : goal.returns-then-bytes-gt65536
 returns-then-bytes-gt65536 c = record { told = reading_long c.args.bytes.now c.if-bytes-gt65536.true; fits = tt }
 
-pub returns-in-default : goal.returns-in-default
-returns-in-default c = record { told = no_line c.args.bytes.now c.if-bytes-gt65536.false c.in-default.ensures; fits = tt }
+pub returns-in_default : goal.returns-in_default
+returns-in_default c = record { told = no_line c.args.bytes.now c.if-bytes-gt65536.false c.in_default.ensures; fits = tt }
 
-pub returns-in-err-kind : goal.returns-in-err-kind
-returns-in-err-kind c =
-    let p = err_from_is_err_and c.from-residual.result c.from-residual.ensures.1 in
+pub returns-in_err-kind : goal.returns-in_err-kind
+returns-in_err-kind c =
+    let p = err_from_is_err_and c.from_residual.result c.from_residual.ensures.1 in
     rw (p.1, p.2) (record {
-      told = header_stops c.args.bytes.now c.if-bytes-gt65536.false c.in-Some.line.now c.in-Some.rest.now c.in-Some.ensures.0 _ _ c.in-err-kind.ensures.told;
+      told = header_stops c.args.bytes.now c.if-bytes-gt65536.false c.in-Some.line.now c.in-Some.rest.now c.in-Some.ensures.0 _ _ c.in_err-kind.ensures.told;
       fits = tt;
     })
 
-pub returns-in-err-read_rest : goal.returns-in-err-read_rest
-returns-in-err-read_rest c =
-    let p = err_from_is_err_and c.from-residual-in-err-read_rest.result c.from-residual-in-err-read_rest.ensures.1 in
+pub returns-in_err-read_rest : goal.returns-in_err-read_rest
+returns-in_err-read_rest c =
+    let p = err_from_is_err_and c.from_residual-in_err-read_rest.result c.from_residual-in_err-read_rest.ensures.1 in
     rw (p.1, p.2) (record {
-      told = c.in-err-read_rest.ensures.told ∙ header_goes c.args.bytes.now c.if-bytes-gt65536.false c.in-Some.line.now c.in-Some.rest.now c.in-Some.ensures.0 (header_level (kind_shown c.in-ok-kind.kind) (header_numbers c.in-ok-kind.header)) (stage_shown c.start-reader.result.stage) (level_shown arms arm_numbers arm-walls.wall_numbers c.start-reader.result.level) c.in-ok-kind.ensures.told (ap stage_shown c.start-reader.ensures.stage) (c.start-reader.ensures.level ∙ ap (λ k. header_level (kind_shown k) (header_numbers c.in-ok-kind.header)) (sym c.in-Arms.is));
+      told = c.in_err-read_rest.ensures.told ∙ header_goes c.args.bytes.now c.if-bytes-gt65536.false c.in-Some.line.now c.in-Some.rest.now c.in-Some.ensures.0 (header_level (kind_shown c.in_ok-kind.kind) (header_numbers c.in_ok-kind.header)) (stage_shown c.start-reader.result.stage) (level_shown arms arm_numbers arm-walls.wall_numbers c.start-reader.result.level) c.in_ok-kind.ensures.told (ap stage_shown c.start-reader.ensures.stage) (c.start-reader.ensures.level ∙ ap (λ k. header_level (kind_shown k) (header_numbers c.in_ok-kind.header)) (sym c.in-Arms.is));
       fits = tt;
     })
 
-pub returns-in-ok-read_rest : goal.returns-in-ok-read_rest
-returns-in-ok-read_rest c = record {
-  told = c.in-ok-read_rest.ensures.told ∙ header_goes c.args.bytes.now c.if-bytes-gt65536.false c.in-Some.line.now c.in-Some.rest.now c.in-Some.ensures.0 (header_level (kind_shown c.in-ok-kind.kind) (header_numbers c.in-ok-kind.header)) (stage_shown c.start-reader.result.stage) (level_shown arms arm_numbers arm-walls.wall_numbers c.start-reader.result.level) c.in-ok-kind.ensures.told (ap stage_shown c.start-reader.ensures.stage) (c.start-reader.ensures.level ∙ ap (λ k. header_level (kind_shown k) (header_numbers c.in-ok-kind.header)) (sym c.in-Arms.is));
-  fits = (counted c.read_rest.new.reader c.read_rest.ensures.room, subst SettingsHold (sym (c.read_rest.ensures.header ∙ c.start-reader.ensures.header)) c.in-ok-kind.ensures.settings);
+pub returns-in_ok-read_rest : goal.returns-in_ok-read_rest
+returns-in_ok-read_rest c = record {
+  told = c.in_ok-read_rest.ensures.told ∙ header_goes c.args.bytes.now c.if-bytes-gt65536.false c.in-Some.line.now c.in-Some.rest.now c.in-Some.ensures.0 (header_level (kind_shown c.in_ok-kind.kind) (header_numbers c.in_ok-kind.header)) (stage_shown c.start-reader.result.stage) (level_shown arms arm_numbers arm-walls.wall_numbers c.start-reader.result.level) c.in_ok-kind.ensures.told (ap stage_shown c.start-reader.ensures.stage) (c.start-reader.ensures.level ∙ ap (λ k. header_level (kind_shown k) (header_numbers c.in_ok-kind.header)) (sym c.in-Arms.is));
+  fits = (counted c.read_rest.new.reader c.read_rest.ensures.room, subst SettingsHold (sym (c.read_rest.ensures.header ∙ c.start-reader.ensures.header)) c.in_ok-kind.ensures.settings);
 }
 
-pub returns-in-err-read_rest-2 : goal.returns-in-err-read_rest-2
-returns-in-err-read_rest-2 c =
-    let p = err_from_is_err_and c.from-residual-in-err-read_rest-2.result c.from-residual-in-err-read_rest-2.ensures.1 in
+pub returns-in_err-read_rest-2 : goal.returns-in_err-read_rest-2
+returns-in_err-read_rest-2 c =
+    let p = err_from_is_err_and c.from_residual-in_err-read_rest-2.result c.from_residual-in_err-read_rest-2.ensures.1 in
     rw (p.1, p.2) (record {
-      told = c.in-err-read_rest-2.ensures.told ∙ header_goes c.args.bytes.now c.if-bytes-gt65536.false c.in-Some.line.now c.in-Some.rest.now c.in-Some.ensures.0 (header_level (kind_shown c.in-ok-kind.kind) (header_numbers c.in-ok-kind.header)) (stage_shown c.start-reader-in-Cards.result.stage) (level_shown cards card_numbers card-walls.wall_numbers c.start-reader-in-Cards.result.level) c.in-ok-kind.ensures.told (ap stage_shown c.start-reader-in-Cards.ensures.stage) (c.start-reader-in-Cards.ensures.level ∙ ap (λ k. header_level (kind_shown k) (header_numbers c.in-ok-kind.header)) (sym c.in-Cards.is));
+      told = c.in_err-read_rest-2.ensures.told ∙ header_goes c.args.bytes.now c.if-bytes-gt65536.false c.in-Some.line.now c.in-Some.rest.now c.in-Some.ensures.0 (header_level (kind_shown c.in_ok-kind.kind) (header_numbers c.in_ok-kind.header)) (stage_shown c.start-reader-in-Cards.result.stage) (level_shown cards card_numbers card-walls.wall_numbers c.start-reader-in-Cards.result.level) c.in_ok-kind.ensures.told (ap stage_shown c.start-reader-in-Cards.ensures.stage) (c.start-reader-in-Cards.ensures.level ∙ ap (λ k. header_level (kind_shown k) (header_numbers c.in_ok-kind.header)) (sym c.in-Cards.is));
       fits = tt;
     })
 
-pub returns-in-ok-read_rest-2 : goal.returns-in-ok-read_rest-2
-returns-in-ok-read_rest-2 c = record {
-  told = c.in-ok-read_rest-2.ensures.told ∙ header_goes c.args.bytes.now c.if-bytes-gt65536.false c.in-Some.line.now c.in-Some.rest.now c.in-Some.ensures.0 (header_level (kind_shown c.in-ok-kind.kind) (header_numbers c.in-ok-kind.header)) (stage_shown c.start-reader-in-Cards.result.stage) (level_shown cards card_numbers card-walls.wall_numbers c.start-reader-in-Cards.result.level) c.in-ok-kind.ensures.told (ap stage_shown c.start-reader-in-Cards.ensures.stage) (c.start-reader-in-Cards.ensures.level ∙ ap (λ k. header_level (kind_shown k) (header_numbers c.in-ok-kind.header)) (sym c.in-Cards.is));
-  fits = (counted c.read_rest-in-Cards.new.reader c.read_rest-in-Cards.ensures.room, subst SettingsHold (sym (c.read_rest-in-Cards.ensures.header ∙ c.start-reader-in-Cards.ensures.header)) c.in-ok-kind.ensures.settings);
+pub returns-in_ok-read_rest-2 : goal.returns-in_ok-read_rest-2
+returns-in_ok-read_rest-2 c = record {
+  told = c.in_ok-read_rest-2.ensures.told ∙ header_goes c.args.bytes.now c.if-bytes-gt65536.false c.in-Some.line.now c.in-Some.rest.now c.in-Some.ensures.0 (header_level (kind_shown c.in_ok-kind.kind) (header_numbers c.in_ok-kind.header)) (stage_shown c.start-reader-in-Cards.result.stage) (level_shown cards card_numbers card-walls.wall_numbers c.start-reader-in-Cards.result.level) c.in_ok-kind.ensures.told (ap stage_shown c.start-reader-in-Cards.ensures.stage) (c.start-reader-in-Cards.ensures.level ∙ ap (λ k. header_level (kind_shown k) (header_numbers c.in_ok-kind.header)) (sym c.in-Cards.is));
+  fits = (counted c.read_rest-in-Cards.new.reader c.read_rest-in-Cards.ensures.room, subst SettingsHold (sym (c.read_rest-in-Cards.ensures.header ∙ c.start-reader-in-Cards.ensures.header)) c.in_ok-kind.ensures.settings);
 }

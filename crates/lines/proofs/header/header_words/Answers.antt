@@ -7,7 +7,7 @@ use Rattle.lines.specs.Headers.{kind_named, settings_read, with_kind}
 use Rattle.lines.proofs.Firsts.{header_by_word}
 use Rattle.lines.proofs.header.header_words.Goals as goal
 
-pub returns-in-err-kind : goal.returns-in-err-kind
-returns-in-err-kind c =
-    let p = err_from_is_err_and c.from-residual.result c.from-residual.ensures.1 in
-    rw (p.1, p.2) (ap (λ k. with_kind k (settings_read (take_words setting_wants (words_after (words_left c.args.words.now)) (place_after (words_left c.args.words.now) c.args.words.now.place)))) (c.in-err-kind.ensures ∙ ap kind_named c.next.ensures.token) ∙ sym (header_by_word (words_left c.args.words.now) c.args.words.now.place))
+pub returns-in_err-kind : goal.returns-in_err-kind
+returns-in_err-kind c =
+    let p = err_from_is_err_and c.from_residual.result c.from_residual.ensures.1 in
+    rw (p.1, p.2) (ap (λ k. with_kind k (settings_read (take_words setting_wants (words_after (words_left c.args.words.now)) (place_after (words_left c.args.words.now) c.args.words.now.place)))) (c.in_err-kind.ensures ∙ ap kind_named c.next.ensures.token) ∙ sym (header_by_word (words_left c.args.words.now) c.args.words.now.place))

@@ -11,18 +11,18 @@ use Rattle.roadmap.specs.Calls.{grow_leaves_at, linked_hits, LinkedTo}
 use Rattle.roadmap.proofs.States.{room_used, held_count, add_sound, add_means, grow_refused, grow_done}
 use Rattle.roadmap.proofs.Roadmap.add.Goals as goal
 
-pub returns-in-err-room : goal.returns-in-err-room
-returns-in-err-room g c =
+pub returns-in_err-room : goal.returns-in_err-room
+returns-in_err-room g c =
     let r = c.args.self.now in
-    let p = err_from_is_err_and c.from-residual.result c.from-residual.ensures.1 in
-    let q = grow_refused g.Element.Metric.dist (g.C.Checker.passes c.args.checker.now) (road_of g.I.Index.meaning r) c.args.e _ _ (c.in-err-room.ensures ∙ ap (λ z. room_outcome z.0 z.1 z.2) c.tally-capacity.ensures) in
+    let p = err_from_is_err_and c.from_residual.result c.from_residual.ensures.1 in
+    let q = grow_refused g.Element.Metric.dist (g.C.Checker.passes c.args.checker.now) (road_of g.I.Index.meaning r) c.args.e _ _ (c.in_err-room.ensures ∙ ap (λ z. room_outcome z.0 z.1 z.2) c.tally-capacity.ensures) in
     rw (p.1, p.2) (record { stays = c.requires; answer = q.0; leaves = q.1 })
 
 pub overflow_add-last : goal.overflow_add-last
 overflow_add-last g c =
     let tl = c.tally-capacity.ensures in
     let law = g.I.Index.lawful c.args.self.now.index c.requires.index in
-    let free = numbers_left c.tally-capacity.result.0 c.tally-capacity.result.1 c.tally-capacity.result.2 c.in-ok-room.ensures in
+    let free = numbers_left c.tally-capacity.result.0 c.tally-capacity.result.1 c.tally-capacity.result.2 c.in_ok-room.ensures in
     omega (arith, ap (λ z. z.2) tl, law.last_bound, free)
 
 pub nearest-found-requires : goal.nearest-found-requires
@@ -32,12 +32,12 @@ pub link-own-requires : goal.link-own-requires
 link-own-requires g c = (c.requires.index, simp length-take (omega (arith, c.nearest-found.ensures.count, c.requires.k_high)))
 
 pub file-number-requires : goal.file-number-requires
-file-number-requires g c = (c.requires.index, sym (c.in-ok-room.ensures ∙ ap (λ z. room_outcome z.0 z.1 z.2) c.tally-capacity.ensures))
+file-number-requires g c = (c.requires.index, sym (c.in_ok-room.ensures ∙ ap (λ z. room_outcome z.0 z.1 z.2) c.tally-capacity.ensures))
 
 pub write-requires : goal.write-requires
 write-requires g c =
     let r = c.args.self.now in
-    room_used g.I.Index.sound g.I.Index.meaning r c.requires (g.I.Index.lawful r.index c.requires.index) g.Element.Metric.dist g.Element.Metric.top g.Element.Metric.laws (g.C.Checker.passes c.args.checker.now) c.args.e (c.in-ok-room.ensures ∙ ap (λ z. room_outcome z.0 z.1 z.2) c.tally-capacity.ensures)
+    room_used g.I.Index.sound g.I.Index.meaning r c.requires (g.I.Index.lawful r.index c.requires.index) g.Element.Metric.dist g.Element.Metric.top g.Element.Metric.laws (g.C.Checker.passes c.args.checker.now) c.args.e (c.in_ok-room.ensures ∙ ap (λ z. room_outcome z.0 z.1 z.2) c.tally-capacity.ensures)
 
 pub returns : goal.returns
 returns g c =
@@ -47,7 +47,7 @@ returns g c =
     let p = g.C.Checker.passes c.args.checker.now in
     let law = g.I.Index.lawful r.index c.requires.index in
     let tl = c.tally-capacity.ensures in
-    let free = c.in-ok-room.ensures ∙ ap (λ z. room_outcome z.0 z.1 z.2) tl in
+    let free = c.in_ok-room.ensures ∙ ap (λ z. room_outcome z.0 z.1 z.2) tl in
     let found = take (c.nearest-found.result - 0) c.nearest-found.new.hits in
     let z : c.nearest-found.result - 0 ≡ c.nearest-found.result = omega arith in
     let near : found ≡ near_hits dist m c.args.e r.k = ap (λ k. take k c.nearest-found.new.hits) z ∙ c.nearest-found.ensures.writes in

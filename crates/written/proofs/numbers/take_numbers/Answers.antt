@@ -19,13 +19,13 @@ loop-i-init g c = (
 pub loop-i-preserved : goal.loop-i-preserved
 loop-i-preserved g c =
     let room : c.loop-i.i < length c.loop-i.numbers = omega arith in
-    let most : c.in-ok-numbers.field-0 ≤ c.args.largest = omega (arith, c.in-ok-numbers.ensures.most) in (
+    let most : c.in_ok-numbers.field-0 ≤ c.args.largest = omega (arith, c.in_ok-numbers.ensures.most) in (
       simp length-set c.loop-i.invariant.0,
-      below_more (λ k. get_or (set c.loop-i.numbers c.loop-i.i c.in-ok-numbers.field-0) k 0 ≤ c.args.largest) c.loop-i.i
+      below_more (λ k. get_or (set c.loop-i.numbers c.loop-i.i c.in_ok-numbers.field-0) k 0 ≤ c.args.largest) c.loop-i.i
           (λ k h. let ne : k ≢ c.loop-i.i = omega arith in rw get_or-set_other (c.loop-i.invariant.1 k h))
           (rw get_or-set_same most),
-      takes g.row.N c.loop-i.i c.args.largest c.loop-i.numbers _ _ _ c.loop-i-test.true c.loop-i.invariant.2 c.in-ok-numbers.field-0 _ _ room
-          (c.in-ok-numbers.ensures.taken ∙ ap (λ l. part (a_number l ∷ []) (words_left c.loop-i.words) c.loop-i.words.place) c.from.ensures),
+      takes g.row.N c.loop-i.i c.args.largest c.loop-i.numbers _ _ _ c.loop-i-test.true c.loop-i.invariant.2 c.in_ok-numbers.field-0 _ _ room
+          (c.in_ok-numbers.ensures.taken ∙ ap (λ l. part (a_number l ∷ []) (words_left c.loop-i.words) c.loop-i.words.place) c.from.ensures),
     )
 
 pub returns : goal.returns
@@ -38,11 +38,11 @@ returns g c =
       most = λ k h. c.loop-i.invariant.1 k (omega arith);
     }
 
-pub returns-in-err-numbers : goal.returns-in-err-numbers
-returns-in-err-numbers g c =
-    let p = err_from_is_err_and c.from-residual.result c.from-residual.ensures.1 in
+pub returns-in_err-numbers : goal.returns-in_err-numbers
+returns-in_err-numbers g c =
+    let p = err_from_is_err_and c.from_residual.result c.from_residual.ensures.1 in
     rw (p.1, p.2) (record {
       taken = stops g.row.N c.loop-i.i c.args.largest c.loop-i.numbers _ _ _ c.loop-i-test.true c.loop-i.invariant.2 _ _ _
-          (c.in-err-numbers.ensures.taken ∙ ap (λ l. part (a_number l ∷ []) (words_left c.loop-i.words) c.loop-i.words.place) c.from.ensures);
+          (c.in_err-numbers.ensures.taken ∙ ap (λ l. part (a_number l ∷ []) (words_left c.loop-i.words) c.loop-i.words.place) c.from.ensures);
       most = tt;
     })

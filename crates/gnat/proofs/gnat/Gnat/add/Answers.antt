@@ -7,18 +7,18 @@ use Rattle.gnat.specs.Leaving.{tree_with_at}
 use Rattle.gnat.proofs.Calls.{room_is, tree_right}
 use Rattle.gnat.proofs.gnat.Gnat.add.Goals as goal
 
-pub returns-in-err-room : goal.returns-in-err-room
-returns-in-err-room g c =
+pub returns-in_err-room : goal.returns-in_err-room
+returns-in_err-room g c =
     let s = c.args.self.now in
-    let p = err_from_is_err_and c.from-residual.result c.from-residual.ensures.1 in
-    let full = c.in-err-room.ensures ∙ room_is g.E.Metric.dist s c.requires c.capacity.result c.capacity.ensures in
+    let p = err_from_is_err_and c.from_residual.result c.from_residual.ensures.1 in
+    let full = c.in_err-room.ensures ∙ room_is g.E.Metric.dist s c.requires c.capacity.result c.capacity.ensures in
     let r = add_refused (gnat_meaning s) c.args.e _ _ full in
     rw (p.1, p.2) (record { stays = c.requires; answer = r.0; leaves = r.1; tree = ap (tree_with_at g.E.Metric.dist s c.args.e) full; right = tree_right g.E.Metric.dist s c.requires; degree = refl; bucket = refl })
 
 pub returns : goal.returns
 returns g c =
     let s = c.args.self.now in
-    let free = c.in-ok-room.ensures ∙ room_is g.E.Metric.dist s c.requires c.capacity.result c.capacity.ensures in
+    let free = c.in_ok-room.ensures ∙ room_is g.E.Metric.dist s c.requires c.capacity.result c.capacity.ensures in
     let r = add_done (gnat_meaning s) c.args.e free in
     let new = c.insert.ensures in
     record {
