@@ -55,6 +55,7 @@ def declared():
             code = line.split("-- ")[0].rstrip("\n")
             if not code.strip():
                 continue
+            names |= {name for name in re.findall(r"[{,][^{},]+ as (" + WORD + r")", code) if wanted(name)}
             depth = len(code) - len(code.lstrip())
             if in_record and depth <= indent:
                 in_record = False

@@ -11,8 +11,8 @@ use Rattle.gnat_theory.specs.Shuffles.{Shuffle}
 use Rattle.gnat_theory.specs.Shuffles.Shuffle.{in_turn}
 use Rattle.gnat_theory.proofs.Shuffling.{all_shuffle, shuffle_back, shuffle_parts}
 use Rattle.gnat_theory.proofs.Splits.{bare_pivots, bare_branching, bare_leaves}
-use Rattle.gnat_rows.specs.declared.Branch.{Branch as Branch-record}
-use Rattle.gnat_rows.specs.declared.Leaf.{Leaf as Leaf-record}
+use Rattle.gnat_rows.specs.declared.Branch.{Branch as BranchRecord}
+use Rattle.gnat_rows.specs.declared.Leaf.{Leaf as LeafRecord}
 use Rattle.gnat_rows.specs.declared.Node.TheVariants as node
 use Rattle.gnat_rows.specs.declared.Row.{Row}
 use Rattle.gnat_rows.specs.Shows.{held, HoldsSamples}
@@ -33,7 +33,7 @@ module _ {E : Type 0} (dist : E → E → ℕ) where
   bare_flat ps [] = refl
   bare_flat ps (q ∷ qs) = ap (max 0) (bare_flat ps qs)
 
-module _ {E : Type 0} (dist : E → E → ℕ) (small : (e f : E) → dist e f ≤ 1048576) (degree : ℕ) (one : 1 ≤ degree) (eight : degree ≤ 8) (rows : List (Row E)) (l : Leaf-record) (at : ℕ) (enough : degree ≤ l.count)
+module _ {E : Type 0} (dist : E → E → ℕ) (small : (e f : E) → dist e f ≤ 1048576) (degree : ℕ) (one : 1 ≤ degree) (eight : degree ≤ 8) (rows : List (Row E)) (l : LeafRecord) (at : ℕ) (enough : degree ≤ l.count)
     (cs cs' : List Candidate) (long : length cs' ≡ 33) (is : List ℕ) (l8 : length is ≡ 8) (lists : ListsCandidates dist rows l at cs) (chose : ChoosesFirst dist rows degree degree (l.count + 1) cs cs' is) (xs : List (Sample E)) (r : ReadyLeaf 32 rows l at xs) where
   pub choice : Chosen dist rows degree degree (l.count + 1) cs cs' is xs
   choice = chose xs (lists xs r.holds).0
@@ -63,7 +63,7 @@ module _ {E : Type 0} (dist : E → E → ℕ) (small : (e f : E) → dist e f �
   abbrev pub bare_tree : Tree E
   bare_tree = branch (bare dist choice.pivots choice.pivots)
 
-  module _ (rows₁ : List (Row E)) (b : Branch-record) (clears : Clears rows rows₁ is degree) (made : Bare dist rows₁ is degree b) where
+  module _ (rows₁ : List (Row E)) (b : BranchRecord) (clears : Clears rows rows₁ is degree) (made : Bare dist rows₁ is degree b) where
     pub fillable : Fillable degree rows₁ b others bare_tree (take degree is) choice.rest
     fillable =
         let ps = choice.pivots in
@@ -80,7 +80,7 @@ module _ {E : Type 0} (dist : E → E → ℕ) (small : (e f : E) → dist e f �
           flat = omega (arith, bare_flat dist ps ps);
         }
 
-    pub assembled : (rows₂ : List (Row E)) (b' : Branch-record) → LeavesTree rows₁ rows₂ (node.Branch b') (filed_all dist leaf (take (l.count + 1 - degree) choice.rest) bare_tree) (take (l.count + 1 - degree) others ++ take degree is) → LeavesTree rows rows₂ (node.Branch b') (split dist degree xs) (at ∷ held l)
+    pub assembled : (rows₂ : List (Row E)) (b' : BranchRecord) → LeavesTree rows₁ rows₂ (node.Branch b') (filed_all dist leaf (take (l.count + 1 - degree) choice.rest) bare_tree) (take (l.count + 1 - degree) others ++ take degree is) → LeavesTree rows rows₂ (node.Branch b') (split dist degree xs) (at ∷ held l)
     assembled rows₂ b' filled =
         let m = l.count + 1 - degree in
         let fs = others ++ take degree is in

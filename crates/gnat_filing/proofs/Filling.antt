@@ -14,8 +14,8 @@ use Rattle.gnat_theory.specs.Shuffles.Shuffle.{after, in_turn}
 use Rattle.gnat_theory.proofs.Filed.{leaves_more, filed_all_branching}
 use Rattle.gnat_theory.proofs.Shuffling.{all_shuffle, same_order, shuffle_back, shuffle_front, shuffle_parts, shuffle_behind, shuffle_before}
 use Rattle.gnat_theory.proofs.Splits.{leaf_filed_leaves}
-use Rattle.gnat_rows.specs.declared.Branch.{Branch as Branch-record}
-use Rattle.gnat_rows.specs.declared.Leaf.{Leaf as Leaf-record}
+use Rattle.gnat_rows.specs.declared.Branch.{Branch as BranchRecord}
+use Rattle.gnat_rows.specs.declared.Leaf.{Leaf as LeafRecord}
 use Rattle.gnat_rows.specs.declared.Node.{Node}
 use Rattle.gnat_rows.specs.declared.Node.TheVariants as node
 use Rattle.gnat_rows.specs.declared.Row.{Row}
@@ -42,7 +42,7 @@ next_front is i fs l =
 
 module _ {E : Type 0} where
   -- a tree with no branch is shown by a leaf
-  pub flat_leaf : (rows : List (Row E)) (n : Node) (t : Tree E) (fs : List ℕ) → depth t < 1 → Shows rows n t fs → (l : Leaf-record) × (n ≡ node.Leaf l)
+  pub flat_leaf : (rows : List (Row E)) (n : Node) (t : Tree E) (fs : List ℕ) → depth t < 1 → Shows rows n t fs → (l : LeafRecord) × (n ≡ node.Leaf l)
   flat_leaf rows n (leaf xs) fs d s = (s.0, s.1)
   flat_leaf rows n (branch ps) fs d s = absurd (omega arith)
 
@@ -100,7 +100,7 @@ module _ {E : Type 0} where
       let up : suc k + 1 ≡ suc (k + 1) = omega arith in
       (v.0, v.1, ap (λ z. take z (x ∷ xs)) up ∙ ap (λ z. x ∷ z) v.2)
 
-  module _ (dist : E → E → ℕ) (degree : ℕ) (rows rows₁ : List (Row E)) (b b₁ : Branch-record) (is : List ℕ) (t : Tree E) (fs : List ℕ) (xs : List (Sample E)) (f : Fillable degree rows b is t fs xs)
+  module _ (dist : E → E → ℕ) (degree : ℕ) (rows rows₁ : List (Row E)) (b b₁ : BranchRecord) (is : List ℕ) (t : Tree E) (fs : List ℕ) (xs : List (Sample E)) (f : Fillable degree rows b is t fs xs)
       (i : ℕ) (l : i < length is) (made : LeavesTree rows rows₁ (node.Branch b₁) (filed_all dist leaf (take i xs) t) (take i is ++ fs)) where
     pub fill_ready : Ready degree 31 2 rows₁ (node.Branch b₁) (get_or is i 0) (filed_all dist leaf (take i xs) t) made.lies
     fill_ready =
@@ -117,7 +117,7 @@ module _ {E : Type 0} where
           leaves = leaves_more (0 + length (take i xs)) 31 (omega arith) (filed_all dist leaf (take i xs) t) (leaf_filed_leaves dist 0 (take i xs) t f.leaves);
         }
 
-    pub fill_more : (rows₂ : List (Row E)) (b₂ : Branch-record) → ((row : Row E) → slice_get rows₁ (get_or is i 0) ≡ Some row → LeavesTree rows₁ rows₂ (node.Branch b₂) (filed dist leaf (sample_in row) (filed_all dist leaf (take i xs) t)) (get_or is i 0 ∷ made.lies))
+    pub fill_more : (rows₂ : List (Row E)) (b₂ : BranchRecord) → ((row : Row E) → slice_get rows₁ (get_or is i 0) ≡ Some row → LeavesTree rows₁ rows₂ (node.Branch b₂) (filed dist leaf (sample_in row) (filed_all dist leaf (take i xs) t)) (get_or is i 0 ∷ made.lies))
         → LeavesTree rows rows₂ (node.Branch b₂) (filed_all dist leaf (take (i + 1) xs) t) (take (i + 1) is ++ fs)
     fill_more rows₂ b₂ next =
         let at = get_or is i 0 in
@@ -127,5 +127,5 @@ module _ {E : Type 0} where
         subst (λ z. LeavesTree rows rows₂ (node.Branch b₂) z (take (i + 1) is ++ fs)) (sym (ap (λ z. filed_all dist leaf z t) v.2 ∙ filed_last dist (take i xs) (sample_in v.0) t))
         (tree_then rows rows₁ rows₂ (node.Branch b₁) (node.Branch b₂) (filed_all dist leaf (take i xs) t) (filed dist leaf (sample_in v.0) (filed_all dist leaf (take i xs) t)) at (take i is ++ fs) (take (i + 1) is ++ fs) made (next v.0 v.1) s)
 
-  pub fill_none : (dist : E → E → ℕ) (degree : ℕ) (rows : List (Row E)) (b : Branch-record) (is : List ℕ) (t : Tree E) (fs : List ℕ) (xs : List (Sample E)) → Fillable degree rows b is t fs xs → LeavesTree rows rows (node.Branch b) t fs
+  pub fill_none : (dist : E → E → ℕ) (degree : ℕ) (rows : List (Row E)) (b : BranchRecord) (is : List ℕ) (t : Tree E) (fs : List ℕ) (xs : List (Sample E)) → Fillable degree rows b is t fs xs → LeavesTree rows rows (node.Branch b) t fs
   fill_none dist degree rows b is t fs xs f = record { lies = fs; shows = f.shows; same_rows = same_order fs; only = only_none rows fs }

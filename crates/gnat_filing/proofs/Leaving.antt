@@ -10,7 +10,7 @@ use Rattle.gnat_theory.specs.Splitting.{split, kept_or_split}
 use Rattle.gnat_theory.specs.Shapes.{Leaves}
 use Rattle.gnat_theory.specs.Shuffles.{Shuffle}
 use Rattle.gnat_theory.proofs.Shuffling.{shuffle_front}
-use Rattle.gnat_rows.specs.declared.Leaf.{Leaf as Leaf-record}
+use Rattle.gnat_rows.specs.declared.Leaf.{Leaf as LeafRecord}
 use Rattle.gnat_rows.specs.declared.Node.{Node}
 use Rattle.gnat_rows.specs.declared.Node.TheVariants as node
 use Rattle.gnat_rows.specs.declared.Row.{Row}
@@ -24,11 +24,11 @@ use Rattle.gnat_filing.specs.Leaf.{Pushed}
 pub end_to_front : (fs : List ℕ) (i : ℕ) → Shuffle ℕ (fs ++ (i ∷ [])) (i ∷ fs)
 end_to_front fs i = subst (λ z. Shuffle ℕ (fs ++ (i ∷ [])) (i ∷ z)) (append-nil fs) (shuffle_front fs i [])
 
-module _ {E : Type 0} (most : ℕ) (rows : List (Row E)) (l : Leaf-record) (at : ℕ) (xs : List (Sample E)) (r : ReadyLeaf most rows l at xs) where
+module _ {E : Type 0} (most : ℕ) (rows : List (Row E)) (l : LeafRecord) (at : ℕ) (xs : List (Sample E)) (r : ReadyLeaf most rows l at xs) where
   pub one_more : most ≤ 32 → length xs ≡ l.count + 1
   one_more m = sym (holds_length rows (held l ++ (at ∷ [])) xs r.holds) ∙ length_push (held l) at ∙ ap (λ z. z + 1) (length-take-le l.count l.rows (omega (arith, r.count, r.thirty_two)))
 
-  pub leaf_longer : (l' : Leaf-record) → l.count < 32 → Pushed l l' at → LeavesTree rows rows (node.Leaf l') (leaf xs) (at ∷ held l)
+  pub leaf_longer : (l' : LeafRecord) → l.count < 32 → Pushed l l' at → LeavesTree rows rows (node.Leaf l') (leaf xs) (at ∷ held l)
   leaf_longer l' u p =
       record {
         lies = held l ++ (at ∷ []);
@@ -38,7 +38,7 @@ module _ {E : Type 0} (most : ℕ) (rows : List (Row E)) (l : Leaf-record) (at :
       }
 
   module _ (dist : E → E → ℕ) (degree : ℕ) where
-    pub leaf_kept : (l' : Leaf-record) → most ≤ 32 → l.count < most → Pushed l l' at → LeavesTree rows rows (node.Leaf l') (kept_or_split dist degree most xs) (at ∷ held l)
+    pub leaf_kept : (l' : LeafRecord) → most ≤ 32 → l.count < most → Pushed l l' at → LeavesTree rows rows (node.Leaf l') (kept_or_split dist degree most xs) (at ∷ held l)
     leaf_kept l' m u p =
         let kept = cond-true (leb (length xs) most) (leaf xs) (split dist degree xs) (le-leb (length xs) most (omega (arith, one_more m))) in
         subst (λ z. LeavesTree rows rows (node.Leaf l') z (at ∷ held l)) (sym kept) (leaf_longer l' (omega arith) p)
@@ -53,13 +53,13 @@ module _ {E : Type 0} (most : ℕ) (rows : List (Row E)) (l : Leaf-record) (at :
 
 module _ {E : Type 0} (degree bucket left : ℕ) (rows : List (Row E)) (n : Node) (at : ℕ) (t : Tree E) (fs : List ℕ) (row : Row E) where
   -- the samples of the leaf that the tree is
-  pub record IsLeaf (l : Leaf-record) : Type 0 where
+  pub record IsLeaf (l : LeafRecord) : Type 0 where
     pub samples : List (Sample E)
     pub tree : t ≡ leaf samples
     pub lies : held l ≡ fs
     pub ready : ReadyLeaf bucket rows l at (samples ++ (sample_in row ∷ []))
 
-  pub is_leaf : (l : Leaf-record) → n ≡ node.Leaf l → slice_get rows at ≡ Some row → Ready degree bucket left rows n at t fs → IsLeaf l
+  pub is_leaf : (l : LeafRecord) → n ≡ node.Leaf l → slice_get rows at ≡ Some row → Ready degree bucket left rows n at t fs → IsLeaf l
   is_leaf l e there r =
       let s = shows_leaf rows n l t fs e r.shows in
       let few : length s.0 ≤ bucket = subst (Leaves bucket) s.1 r.leaves in

@@ -10,7 +10,7 @@ use Rattle.gnat_theory.specs.Filing.{nearest, widened, distances, filed, filed_u
 use Rattle.gnat_theory.specs.Shapes.{Branching, BranchingParts, Leaves, LeavesParts}
 use Rattle.gnat_theory.specs.Shuffles.{Shuffle}
 use Rattle.gnat_theory.proofs.Shuffling.{all_shuffle, shuffle_back}
-use Rattle.gnat_rows.specs.declared.Branch.{Branch as Branch-record}
+use Rattle.gnat_rows.specs.declared.Branch.{Branch as BranchRecord}
 use Rattle.gnat_rows.specs.declared.Node.{Node}
 use Rattle.gnat_rows.specs.declared.Node.TheVariants as node
 use Rattle.gnat_rows.specs.declared.Row.{Row}
@@ -24,7 +24,7 @@ use Rattle.gnat_rows.proofs.Showing.{Same, frame, shows_branch, Child, child, of
 use Rattle.gnat_filing.specs.Filed.{depth, deepest, Ready, LeavesTree}
 use Rattle.gnat_filing.specs.Widening.{Pivoted, Measured, Widens, Approaches}
 
-module _ {E : Type 0} (rows : List (Row E)) (b : Branch-record) (at : ℕ) (ps : Parts E) (fs : List ℕ) where
+module _ {E : Type 0} (rows : List (Row E)) (b : BranchRecord) (at : ℕ) (ps : Parts E) (fs : List ℕ) where
   -- a branch of which the rows show the parts, and another row
   pub record ReadyBranch : Type 0 where
     pub parts : ShowsParts rows b 0 ps fs
@@ -96,7 +96,7 @@ module _ {E : Type 0} (rows : List (Row E)) (b : Branch-record) (at : ℕ) (ps :
         same_rest : All (Same rows rows₂) (c.before ++ c.behind)
         same_rest = All-weaker (λ i. Absent i front) (Same rows rows₂) (λ i a. only_front.others i a) (c.before ++ c.behind) (distinct_across front (c.before ++ c.behind) front_apart)
 
-        pub level : (b' : Branch-record) (f : List Range → List Range) (g : Tree E → Tree E) → b'.count ≡ b.count → Mends b b' j f → t' ≡ g c.tree → length (pivots (replaced (λ p. p) f g j ps)) ≡ length (pivots ps) → LeavesTree rows rows₂ (node.Branch b') (branch (replaced (λ p. p) f g j ps)) (at ∷ fs)
+        pub level : (b' : BranchRecord) (f : List Range → List Range) (g : Tree E → Tree E) → b'.count ≡ b.count → Mends b b' j f → t' ≡ g c.tree → length (pivots (replaced (λ p. p) f g j ps)) ≡ length (pivots ps) → LeavesTree rows rows₂ (node.Branch b') (branch (replaced (λ p. p) f g j ps)) (at ∷ fs)
         unfolding row' pivot_row
         level b' f g same_count mends is same_length =
             record {
@@ -125,7 +125,7 @@ replaced_length h f g zero (part p col t rest) = refl
 replaced_length h f g (suc n) (part p col t rest) = ap suc (replaced_length h f g n rest)
 
 module _ {E : Type 0} (degree bucket left : ℕ) (rows : List (Row E)) (n : Node) (at : ℕ) (t : Tree E) (fs : List ℕ) where
-  pub record IsBranch (b : Branch-record) : Type 0 where
+  pub record IsBranch (b : BranchRecord) : Type 0 where
     pub parts : Parts E
     pub tree : t ≡ branch parts
     pub ready : ReadyBranch rows b at parts fs
@@ -134,7 +134,7 @@ module _ {E : Type 0} (degree bucket left : ℕ) (rows : List (Row E)) (n : Node
     pub branching : BranchingParts degree parts
     pub leaves : LeavesParts bucket parts
 
-  pub is_branch : (b : Branch-record) → 1 ≤ degree → n ≡ node.Branch b → Ready degree bucket left rows n at t fs → IsBranch b
+  pub is_branch : (b : BranchRecord) → 1 ≤ degree → n ≡ node.Branch b → Ready degree bucket left rows n at t fs → IsBranch b
   is_branch b one e r =
       let s = shows_branch rows n b t fs e r.shows in
       let branching = subst (Branching degree) s.1 r.branching in
@@ -148,7 +148,7 @@ module _ {E : Type 0} (degree bucket left : ℕ) (rows : List (Row E)) (n : Node
         leaves = subst (Leaves bucket) s.1 r.leaves;
       }
 
-  module _ (b : Branch-record) (i : IsBranch b) where
+  module _ (b : BranchRecord) (i : IsBranch b) where
     pub child_ready : (j : ℕ) (c : Child rows b 0 j j i.parts fs) → Ready degree bucket (left - 1) rows c.row.node at c.tree c.below
     child_ready j c =
         record {
@@ -161,7 +161,7 @@ module _ {E : Type 0} (degree bucket left : ℕ) (rows : List (Row E)) (n : Node
         }
 
     -- at a branch the sample goes below the nearest pivot
-    pub filed_below : (dist : E → E → ℕ) (became : List (Sample E) → Tree E) (rows₁ rows₂ : List (Row E)) (b' : Branch-record) (j : ℕ) (kid : Node) (s : Sample E) (c : Child rows b 0 j j i.parts fs) → Approaches dist rows s.element b b' j
+    pub filed_below : (dist : E → E → ℕ) (became : List (Sample E) → Tree E) (rows₁ rows₂ : List (Row E)) (b' : BranchRecord) (j : ℕ) (kid : Node) (s : Sample E) (c : Child rows b 0 j j i.parts fs) → Approaches dist rows s.element b b' j
         → LeavesTree rows rows₁ kid (filed dist became s c.tree) (at ∷ c.below) → rows₂ ≡ with_node (get_or b.pivots j 0) kid rows₁
         → LeavesTree rows rows₂ (node.Branch b') (filed dist became s t) (at ∷ fs)
     filed_below dist became rows₁ rows₂ b' j kid s c near below put =

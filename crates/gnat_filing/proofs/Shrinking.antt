@@ -18,8 +18,8 @@ use Rattle.gnat_theory.specs.Shuffles.Shuffle.{after, swapped, in_turn}
 use Rattle.gnat_theory.proofs.Pruning.{all_among, among_left, among_right, among_append, part_equal, Other, apart_left, apart_right, others_left, others_right, without_none, marked_none, shrunk_none, shrunk_parts_none}
 use Rattle.gnat_theory.proofs.Sublists.{among_sub, apart_sub, one_side, pivot_sub, standing_sub, standing_parts_sub}
 use Rattle.gnat_theory.proofs.Shuffling.{all_shuffle, same_order, shuffle_back, shuffle_before, shuffle_front}
-use Rattle.gnat_rows.specs.declared.Branch.{Branch as Branch-record}
-use Rattle.gnat_rows.specs.declared.Leaf.{Leaf as Leaf-record}
+use Rattle.gnat_rows.specs.declared.Branch.{Branch as BranchRecord}
+use Rattle.gnat_rows.specs.declared.Leaf.{Leaf as LeafRecord}
 use Rattle.gnat_rows.specs.declared.Node.{Node}
 use Rattle.gnat_rows.specs.declared.Node.TheVariants as node
 use Rattle.gnat_rows.specs.declared.Row.{Row}
@@ -84,7 +84,7 @@ module _ {E : Type 0} (rows : List (Row E)) (at : ℕ) (row : Row E) (there : sl
       among_held : (is : List ℕ) (xs : List (Sample E)) → Among at is → HoldsSamples rows is xs → Among (sample_in row) xs
       among_held is xs m h = held_among rows always at row there (inl refl) is xs m h
 
-  pub leaf_dropped : (n : Node) (l l' : Leaf-record) (t : Tree E) (fs : List ℕ) → n ≡ node.Leaf l → Shows rows n t fs → Among at fs → Distinct fs → Apart (members t) → Shortened l l' at → Drops rows rows (node.Leaf l') true at (shrunk row.number t) fs
+  pub leaf_dropped : (n : Node) (l l' : LeafRecord) (t : Tree E) (fs : List ℕ) → n ≡ node.Leaf l → Shows rows n t fs → Among at fs → Distinct fs → Apart (members t) → Shortened l l' at → Drops rows rows (node.Leaf l') true at (shrunk row.number t) fs
   leaf_dropped n l l' t fs e s m d a short =
       let v = shows_leaf rows n l t fs e s in
       let xs = v.0 in
@@ -155,7 +155,7 @@ module _ {E : Type 0} (P : Pivot E → Tree E → Type 0) where
   at_child zero (part p col u rest) t i f = subst (P p) (sym i) (f p)
   at_child (suc n) (part p col u rest) t i f = at_child n rest t i f
 
-  at_pivot : (rows : List (Row E)) (b : Branch-record) (row : Row E) (k n m : ℕ) (ps : Parts E) (fs : List ℕ) → m ≡ k + n → n < length (pivots ps) → slice_get rows (get_or b.pivots m 0) ≡ Some row → ((t : Tree E) → P (pivot_in row) t) → ShowsParts rows b k ps fs → AtPart P n ps
+  at_pivot : (rows : List (Row E)) (b : BranchRecord) (row : Row E) (k n m : ℕ) (ps : Parts E) (fs : List ℕ) → m ≡ k + n → n < length (pivots ps) → slice_get rows (get_or b.pivots m 0) ≡ Some row → ((t : Tree E) → P (pivot_in row) t) → ShowsParts rows b k ps fs → AtPart P n ps
   at_pivot rows b row k n m none fs e l there f s = absurd (omega arith)
   at_pivot rows b row k zero m (part p col t rest) fs e l there f s =
       let q : m ≡ k = omega arith in
@@ -188,7 +188,7 @@ module _ {E : Type 0} (s : Sample E) where
       (among_append s (standing u) (gathered_parts if_standing rest) k))
       (among_append s (if_standing p) (standing u ++ gathered_parts if_standing rest) m)
 
-module _ {E : Type 0} (rows : List (Row E)) (b : Branch-record) (row : Row E) where
+module _ {E : Type 0} (rows : List (Row E)) (b : BranchRecord) (row : Row E) where
   pivot_shown : (k m : ℕ) (p : Pivot E) (r : Row E) → m ≡ k → slice_get rows (get_or b.pivots m 0) ≡ Some row → slice_get rows (get_or b.pivots k 0) ≡ Some r → pivot_in r ≡ p → pivot_in row ≡ p
   pivot_shown k m p r q there here e = ap pivot_in (same_row rows (get_or b.pivots k 0) row r (ap (λ z. slice_get rows (get_or b.pivots z 0)) (sym q) ∙ there) here) ∙ e
 
@@ -232,7 +232,7 @@ module _ {E : Type 0} (dist : E → E → ℕ) (all : List (Sample E)) where
       (subst (λ z. All (λ s. nearest (distances dist all s) ≡ z) (members t)) up w.0, w.1)
 
 module _ {E : Type 0} (dist : E → E → ℕ) (degree left : ℕ) (rows : List (Row E)) (n : Node) (at : ℕ) (t : Tree E) (fs : List ℕ) (row : Row E) (d : Droppable dist degree left rows n at t fs row) where
-  pub record IsDropBranch (b : Branch-record) : Type 0 where
+  pub record IsDropBranch (b : BranchRecord) : Type 0 where
     pub parts : Parts E
     pub tree : t ≡ branch parts
     pub ready : ReadyBranch rows b (length rows) parts fs
@@ -243,7 +243,7 @@ module _ {E : Type 0} (dist : E → E → ℕ) (degree left : ℕ) (rows : List 
     pub all_numbers : Apart (gathered_parts always parts)
     pub stands : Among (sample_in row) (gathered_parts if_standing parts)
 
-  pub is_drop_branch : (b : Branch-record) → n ≡ node.Branch b → IsDropBranch b
+  pub is_drop_branch : (b : BranchRecord) → n ≡ node.Branch b → IsDropBranch b
   is_drop_branch b e =
       let s = shows_branch rows n b t fs e d.shows in
       let branching = subst (Branching degree) s.1 d.branching in
@@ -260,7 +260,7 @@ module _ {E : Type 0} (dist : E → E → ℕ) (degree left : ℕ) (rows : List 
         stands = subst (λ z. Among (sample_in row) (standing z)) s.1 d.stands;
       }
 
-  module _ (b : Branch-record) (i : IsDropBranch b) where
+  module _ (b : BranchRecord) (i : IsDropBranch b) where
     -- a pivot is marked
     pub pivot_marked : (rows' : List (Row E)) (k : ℕ) → k < b.count → get_or b.pivots k 0 ≡ at → rows' ≡ with_marked at true rows → Drops rows rows' (node.Branch b) false at (shrunk row.number t) fs
     pivot_marked rows' k l here put =

@@ -8,7 +8,7 @@ use Rattle.gnat_theory.specs.Tree.Parts.{none, part}
 use Rattle.gnat_theory.specs.Splitting.{grown}
 use Rattle.gnat_theory.specs.Shapes.{Branching, Leaves}
 use Rattle.gnat_theory.specs.Shuffles.{Shuffle}
-use Rattle.gnat_rows.specs.declared.Leaf.{Leaf as Leaf-record}
+use Rattle.gnat_rows.specs.declared.Leaf.{Leaf as LeafRecord}
 use Rattle.gnat_rows.specs.declared.Node.{Node}
 use Rattle.gnat_rows.specs.declared.Row.{Row}
 use Rattle.gnat_rows.specs.Shows.{sample_in, held, HoldsSamples, Shows}
@@ -52,17 +52,17 @@ module _ {E : Type 0} where
     pub only : OnlyIn fs rows rows'
 
   -- a leaf of at most so many rows and the row `at`, which hold the samples xs
-  pub record ReadyLeaf (most : ℕ) (rows : List (Row E)) (l : Leaf-record) (at : ℕ) (xs : List (Sample E)) : Type 0 where
+  pub record ReadyLeaf (most : ℕ) (rows : List (Row E)) (l : LeafRecord) (at : ℕ) (xs : List (Sample E)) : Type 0 where
     pub thirty_two : length l.rows ≡ 32
     pub count : l.count ≤ most
     pub apart : Distinct (at ∷ held l)
     pub holds : HoldsSamples rows (held l ++ (at ∷ [])) xs
 
-  abbrev pub LeafFileable : ℕ → List (Row E) → Leaf-record → ℕ → Type 0
+  abbrev pub LeafFileable : ℕ → List (Row E) → LeafRecord → ℕ → Type 0
   LeafFileable most rows l at = (xs : List (Sample E)) × ReadyLeaf most rows l at xs
 
   -- whatever samples the leaf and the row `at` held, the rows show what they become
-  abbrev pub Becomes : (List (Sample E) → Tree E) → ℕ → List (Row E) → List (Row E) → Leaf-record → Node → ℕ → Type 0
+  abbrev pub Becomes : (List (Sample E) → Tree E) → ℕ → List (Row E) → List (Row E) → LeafRecord → Node → ℕ → Type 0
   Becomes became most rows rows' l node' at = (xs : List (Sample E)) → ReadyLeaf most rows l at xs → LeavesTree rows rows' node' (became xs) (at ∷ held l)
 
 module _ {E : Type 0} (dist : E → E → ℕ) (degree bucket : ℕ) where

@@ -7,7 +7,7 @@ use Rattle.gnat_theory.specs.Tree.Tree.{leaf}
 use Rattle.gnat_theory.specs.Filing.{filed, filed_all}
 use Rattle.gnat_theory.specs.Shapes.{Branching, Leaves}
 use Rattle.gnat_rows.specs.declared.Branch.{Branch}
-use Rattle.gnat_rows.specs.declared.Leaf.{Leaf as Leaf-record}
+use Rattle.gnat_rows.specs.declared.Leaf.{Leaf as LeafRecord}
 use Rattle.gnat_rows.specs.declared.Node.{Node}
 use Rattle.gnat_rows.specs.declared.Node.TheVariants as node
 use Rattle.gnat_rows.specs.declared.Row.{Row}
@@ -19,7 +19,7 @@ use Rattle.gnat_filing.specs.Leaf.{Pushed}
 
 -- a leaf with one row more
 abbrev pub Lengthened : Node → Node → ℕ → Type 0
-Lengthened n n' at = (l : Leaf-record) → n ≡ node.Leaf l → (l' : Leaf-record) × (n' ≡ node.Leaf l') × Pushed l l' at
+Lengthened n n' at = (l : LeafRecord) → n ≡ node.Leaf l → (l' : LeafRecord) × (n' ≡ node.Leaf l') × Pushed l l' at
 
 module _ {E : Type 0} where
   -- the row is an unmarked pivot's over an empty leaf

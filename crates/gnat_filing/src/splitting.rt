@@ -1,8 +1,8 @@
 // Splitting a leaf that has become too large.
 ghost use Rattle.std.specs.Prelude.{◌≡◌, ℕ, ◌+◌, ◌-◌, ◌<◌, ◌≤◌, length, take, slice_index};
 ghost use Rattle.gnat_theory.specs.Splitting.{split as split_of};
-ghost use Rattle.gnat_rows.specs.declared.Leaf.{Leaf as Leaf-record};
-ghost use Rattle.gnat_rows.specs.declared.Node.TheVariants.{Leaf as leaf-node};
+ghost use Rattle.gnat_rows.specs.declared.Leaf.{Leaf as LeafRecord};
+ghost use Rattle.gnat_rows.specs.declared.Node.TheVariants.{Leaf as leaf_node};
 ghost use Rattle.gnat_filing.specs.Choosing.{rows_of};
 ghost use Rattle.gnat_filing.specs.Filed.{LeafFileable, Becomes};
 ghost use Rattle.gnat_filing.specs.Filling.{Lengthened, Clears, Bare, BelowFileable, FilesBelow, SomeFillable, Fills};
@@ -26,7 +26,7 @@ pub fn pushed(l: Leaf, at: u16) -> Leaf
 
 // The same of a node that is a leaf.
 fn lengthened(node: Node, at: u16) -> Node
-    requires { (l : Leaf-record) → node ≡ leaf-node l → l.count < 32 }
+    requires { (l : LeafRecord) → node ≡ leaf_node l → l.count < 32 }
     ensures { Lengthened node result at }
 {
     match node {

@@ -6,7 +6,7 @@ use Rattle.hits.specs.Samples.{Sample}
 use Rattle.gnat_theory.specs.Tree.{Tree, Parts}
 use Rattle.gnat_theory.specs.Tree.Tree.{leaf, branch}
 use Rattle.gnat_theory.specs.Tree.Parts.{none, part}
-use Rattle.gnat_rows.specs.declared.Branch.{Branch as Branch-record}
+use Rattle.gnat_rows.specs.declared.Branch.{Branch as BranchRecord}
 use Rattle.gnat_rows.specs.declared.Node.{Node}
 use Rattle.gnat_rows.specs.declared.Row.{Row}
 use Rattle.gnat_rows.specs.Lying.{Absent, OnlyIn}
@@ -38,7 +38,7 @@ module _ {E : Type 0} where
       shows_placed (leaf xs) n fs s = (s.0, s.1, s.2, s.3, s.4, holds_placed fs xs s.5)
       shows_placed (branch parts) n fs s = (s.0, s.1, s.2, s.3, parts_placed parts s.0 0 fs s.4)
 
-      parts_placed : (parts : Parts E) (b : Branch-record) (j : ℕ) (fs : List ℕ) → ShowsParts rows b j parts fs → ShowsParts (placed ps rows) b j parts fs
+      parts_placed : (parts : Parts E) (b : BranchRecord) (j : ℕ) (fs : List ℕ) → ShowsParts rows b j parts fs → ShowsParts (placed ps rows) b j parts fs
       parts_placed none b j fs s = s
       parts_placed (part p col t rest) b j fs s =
           let n = nth_placed ps rows (get_or b.pivots j 0) s.0 s.3 in

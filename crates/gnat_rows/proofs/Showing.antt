@@ -10,8 +10,8 @@ use Rattle.gnat_theory.specs.Tree.Tree.{leaf, branch}
 use Rattle.gnat_theory.specs.Tree.Parts.{none, part}
 use Rattle.gnat_theory.specs.Filing.{distances}
 use Rattle.gnat_theory.proofs.Pruning.{among_left, among_right, among_append}
-use Rattle.gnat_rows.specs.declared.Leaf.{Leaf as Leaf-record}
-use Rattle.gnat_rows.specs.declared.Branch.{Branch as Branch-record}
+use Rattle.gnat_rows.specs.declared.Leaf.{Leaf as LeafRecord}
+use Rattle.gnat_rows.specs.declared.Branch.{Branch as BranchRecord}
 use Rattle.gnat_rows.specs.declared.Node.{Node}
 use Rattle.gnat_rows.specs.declared.Node.TheVariants as node
 use Rattle.gnat_rows.specs.declared.Row.{Row}
@@ -38,7 +38,7 @@ module _ {E : Type 0} (rows rows' : List (Row E)) where
     frame n (branch ps) fs a s = (s.0, s.1, s.2, s.3, frame_parts s.0 s.0 0 ps fs refl (λ k l. refl) a s.4)
 
     -- and so are the parts from the j-th on, in a branch of the same pivots and, from there on, ranges
-    pub frame_parts : (b b' : Branch-record) (j : ℕ) (ps : Parts E) (fs : List ℕ) → b'.pivots ≡ b.pivots → ((k : ℕ) → j ≤ k → column b' k ≡ column b k) → All Same fs → ShowsParts rows b j ps fs → ShowsParts rows' b' j ps fs
+    pub frame_parts : (b b' : BranchRecord) (j : ℕ) (ps : Parts E) (fs : List ℕ) → b'.pivots ≡ b.pivots → ((k : ℕ) → j ≤ k → column b' k ≡ column b k) → All Same fs → ShowsParts rows b j ps fs → ShowsParts rows' b' j ps fs
     frame_parts b b' j none fs e c a s = s
     frame_parts b b' j (part p col t rest) fs e c a s =
         let i = get_or b.pivots j 0 in
@@ -57,11 +57,11 @@ module _ {E : Type 0} (rows rows' : List (Row E)) where
         )
 
 module _ {E : Type 0} (rows : List (Row E)) where
-  pub shows_leaf : (n : Node) (l : Leaf-record) (t : Tree E) (fs : List ℕ) → n ≡ node.Leaf l → Shows rows n t fs → (xs : List (Sample E)) × (t ≡ leaf xs) × (length l.rows ≡ 32) × (l.count ≤ 32) × (held l ≡ fs) × HoldsSamples rows fs xs
+  pub shows_leaf : (n : Node) (l : LeafRecord) (t : Tree E) (fs : List ℕ) → n ≡ node.Leaf l → Shows rows n t fs → (xs : List (Sample E)) × (t ≡ leaf xs) × (length l.rows ≡ 32) × (l.count ≤ 32) × (held l ≡ fs) × HoldsSamples rows fs xs
   shows_leaf n l (leaf xs) fs e s = let same : s.0 ≡ l = cc in (xs, refl, ap (λ z. length z.rows) (sym same) ∙ s.2, subst (λ z. z.count ≤ 32) same s.3, ap held (sym same) ∙ s.4, s.5)
   shows_leaf n l (branch ps) fs e s = let z : ◌≡◌ {A = ℕ} 0 1 = (let q = s.1 in cc) in absurd (omega arith)
 
-  pub shows_branch : (n : Node) (b : Branch-record) (t : Tree E) (fs : List ℕ) → n ≡ node.Branch b → Shows rows n t fs → (ps : Parts E) × (t ≡ branch ps) × (b.count ≡ length (pivots ps)) × (b.count ≤ 8) × ShowsParts rows b 0 ps fs
+  pub shows_branch : (n : Node) (b : BranchRecord) (t : Tree E) (fs : List ℕ) → n ≡ node.Branch b → Shows rows n t fs → (ps : Parts E) × (t ≡ branch ps) × (b.count ≡ length (pivots ps)) × (b.count ≤ 8) × ShowsParts rows b 0 ps fs
   shows_branch n b (leaf xs) fs e s = let z : ◌≡◌ {A = ℕ} 0 1 = (let q = s.1 in cc) in absurd (omega arith)
   shows_branch n b (branch ps) fs e s = let same : s.0 ≡ b = (let q = s.1 in cc) in (ps, refl, ap (λ z. z.count) (sym same) ∙ s.2, subst (λ z. z.count ≤ 8) same s.3, subst (λ z. ShowsParts rows z 0 ps fs) same s.4)
 
@@ -89,7 +89,7 @@ module _ {E : Type 0} (rows : List (Row E)) where
     shows_within n (leaf xs) fs s = holds_within fs xs s.5
     shows_within n (branch ps) fs s = parts_within s.0 0 ps fs s.4
 
-    pub parts_within : (b : Branch-record) (j : ℕ) (ps : Parts E) (fs : List ℕ) → ShowsParts rows b j ps fs → All (λ i. i < length rows) fs
+    pub parts_within : (b : BranchRecord) (j : ℕ) (ps : Parts E) (fs : List ℕ) → ShowsParts rows b j ps fs → All (λ i. i < length rows) fs
     parts_within b j none fs s = subst (All (λ i. i < length rows)) (sym s) tt
     parts_within b j (part p col t rest) fs s =
         subst (All (λ i. i < length rows)) (sym s.8)
@@ -101,7 +101,7 @@ module _ {E : Type 0} (rows : List (Row E)) where
     shows_length n (leaf xs) fs s = holds_length fs xs s.5
     shows_length n (branch ps) fs s = parts_length s.0 0 ps fs s.4
 
-    pub parts_length : (b : Branch-record) (j : ℕ) (ps : Parts E) (fs : List ℕ) → ShowsParts rows b j ps fs → length fs ≡ length (gathered_parts always ps)
+    pub parts_length : (b : BranchRecord) (j : ℕ) (ps : Parts E) (fs : List ℕ) → ShowsParts rows b j ps fs → length fs ≡ length (gathered_parts always ps)
     parts_length b j none fs s = ap length s
     parts_length b j (part p col t rest) fs s =
         ap length s.8
@@ -126,12 +126,12 @@ replaced h f g zero (part p col t rest) = part (h p) (f col) (g t) rest
 replaced h f g (suc n) (part p col t rest) = part p col t (replaced h f g n rest)
 
 -- a branch of the same pivots and ranges but those to the m-th child
-pub record Mends (b b' : Branch-record) (m : ℕ) (f : List Range → List Range) : Type 0 where
+pub record Mends (b b' : BranchRecord) (m : ℕ) (f : List Range → List Range) : Type 0 where
   pub pivots : b'.pivots ≡ b.pivots
   pub here : column b' m ≡ f (column b m)
   pub others : (k : ℕ) → (k ≡ m → ⊥) → column b' k ≡ column b k
 
-module _ {E : Type 0} (rows : List (Row E)) (b : Branch-record) where
+module _ {E : Type 0} (rows : List (Row E)) (b : BranchRecord) where
   -- the n-th of the parts from the k-th on, which is the m-th of all
   pub record Child (k n m : ℕ) (ps : Parts E) (fs : List ℕ) : Type 0 where
     pub row : Row E
@@ -144,7 +144,7 @@ module _ {E : Type 0} (rows : List (Row E)) (b : Branch-record) where
     pub lies : fs ≡ before ++ (get_or b.pivots m 0 ∷ (below ++ behind))
     pub is_child : ChildIs n ps tree
     -- with this child changed, the parts changed
-    pub put_back : (rows' : List (Row E)) (b' : Branch-record) (h : Pivot E → Pivot E) (f : List Range → List Range) (g : Tree E → Tree E) (row' : Row E) (below' : List ℕ) → Mends b b' m f
+    pub put_back : (rows' : List (Row E)) (b' : BranchRecord) (h : Pivot E → Pivot E) (f : List Range → List Range) (g : Tree E → Tree E) (row' : Row E) (below' : List ℕ) → Mends b b' m f
         → slice_get rows' (get_or b.pivots m 0) ≡ Some row' → pivot_in row' ≡ h (pivot_in row) → Shows rows' row'.node (g tree) below' → All (Same rows rows') before → All (Same rows rows') behind
         → ShowsParts rows' b' k (replaced h f g n ps) (before ++ (get_or b.pivots m 0 ∷ (below' ++ behind)))
 
@@ -248,7 +248,7 @@ module _ {E : Type 0} (rows : List (Row E)) (of_pivot : Pivot E → List (Sample
     row_among n (leaf xs) fs a s = held_among fs xs a s.5
     row_among n (branch ps) fs a s = row_among_parts s.0 0 ps fs a s.4
 
-    pub row_among_parts : (b : Branch-record) (j : ℕ) (ps : Parts E) (fs : List ℕ) → Among at fs → ShowsParts rows b j ps fs → Among (sample_in row) (gathered_parts of_pivot ps)
+    pub row_among_parts : (b : BranchRecord) (j : ℕ) (ps : Parts E) (fs : List ℕ) → Among at fs → ShowsParts rows b j ps fs → Among (sample_in row) (gathered_parts of_pivot ps)
     row_among_parts b j none fs a s = absurd (subst (Among at) s a)
     row_among_parts b j (part p col t rest) fs a s =
         let x = sample_in row in

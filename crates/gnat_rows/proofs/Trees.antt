@@ -6,7 +6,7 @@ use Rattle.gnat_theory.specs.Tree.{Tree, Parts, pivots}
 use Rattle.gnat_theory.specs.Tree.Tree.{leaf, branch}
 use Rattle.gnat_theory.specs.Tree.Parts.{none, part}
 use Rattle.gnat_theory.specs.Shapes.{Branching, BranchingParts, pivot_count, part_count}
-use Rattle.gnat_rows.specs.declared.Branch.{Branch as Branch-record}
+use Rattle.gnat_rows.specs.declared.Branch.{Branch as BranchRecord}
 use Rattle.gnat_rows.specs.declared.Node.{Node}
 use Rattle.gnat_rows.specs.declared.Row.{Row}
 use Rattle.gnat_rows.specs.Shows.{HoldsSamples, Shows, ShowsParts, sample_in, pivot_in, column}
@@ -32,7 +32,7 @@ module _ {E : Type 0} (rows : List (Row E)) where
     shown_tree (leaf xs) f n fs s l = leaf_shown f n xs fs s l
     shown_tree (branch ps) f n fs s l = branch_shown f n ps fs s l (λ g h. shown_parts ps g s.0 0 fs s.4 h)
 
-    shown_parts : (ps : Parts E) (f : ℕ) (b : Branch-record) (j : ℕ) (fs : List ℕ) → ShowsParts rows b j ps fs → height_parts ps < f → parts_by (tree_of f rows) rows b (length (pivots ps)) j ≡ ps
+    shown_parts : (ps : Parts E) (f : ℕ) (b : BranchRecord) (j : ℕ) (fs : List ℕ) → ShowsParts rows b j ps fs → height_parts ps < f → parts_by (tree_of f rows) rows b (length (pivots ps)) j ≡ ps
     shown_parts none f b j fs s l = refl
     shown_parts (part p col t rest) f b j fs s l =
         let r = s.0 in

@@ -5,8 +5,8 @@ use Rattle.hits.specs.Samples.{Sample}
 use Rattle.gnat_theory.specs.Tree.{Tree, Parts, Pivot, Range, pivots}
 use Rattle.gnat_theory.specs.Tree.Tree.{leaf, branch}
 use Rattle.gnat_theory.specs.Tree.Parts.{none, part}
-use Rattle.gnat_rows.specs.declared.Leaf.{Leaf as Leaf-record}
-use Rattle.gnat_rows.specs.declared.Branch.{Branch as Branch-record}
+use Rattle.gnat_rows.specs.declared.Leaf.{Leaf as LeafRecord}
+use Rattle.gnat_rows.specs.declared.Branch.{Branch as BranchRecord}
 use Rattle.gnat_rows.specs.declared.Node.{Node}
 use Rattle.gnat_rows.specs.declared.Node.TheVariants as node
 use Rattle.gnat_rows.specs.declared.Row.{Row}
@@ -18,7 +18,7 @@ abbrev pub pivot_in : {E : Type 0} → Row E → Pivot E
 pivot_in r = record { number = r.number; element = r.element; marked = r.marked }
 
 -- the rows of a leaf's samples
-abbrev pub held : Leaf-record → List ℕ
+abbrev pub held : LeafRecord → List ℕ
 held l = take l.count l.rows
 
 -- low and high side by side, of the first n pivots
@@ -29,7 +29,7 @@ ranges (suc n) (l ∷ lows) [] = []
 ranges (suc n) (l ∷ lows) (h ∷ highs) = record { low = l; high = h } ∷ ranges n lows highs
 
 -- the ranges of every pivot to the child j
-abbrev pub column : Branch-record → ℕ → List Range
+abbrev pub column : BranchRecord → ℕ → List Range
 column b j = ranges b.count (slice_index_or b.low j []) (slice_index_or b.high j [])
 
 module _ {E : Type 0} (rows : List (Row E)) where
@@ -44,11 +44,11 @@ module _ {E : Type 0} (rows : List (Row E)) where
   -- those below it.
   abbrev mutual
     pub Shows : Node → Tree E → List ℕ → Type 0
-    Shows n (leaf xs) fs = (l : Leaf-record) × (n ≡ node.Leaf l) × (length l.rows ≡ 32) × (l.count ≤ 32) × (held l ≡ fs) × HoldsSamples fs xs
-    Shows n (branch ps) fs = (b : Branch-record) × (n ≡ node.Branch b) × (b.count ≡ length (pivots ps)) × (b.count ≤ 8) × ShowsParts b 0 ps fs
+    Shows n (leaf xs) fs = (l : LeafRecord) × (n ≡ node.Leaf l) × (length l.rows ≡ 32) × (l.count ≤ 32) × (held l ≡ fs) × HoldsSamples fs xs
+    Shows n (branch ps) fs = (b : BranchRecord) × (n ≡ node.Branch b) × (b.count ≡ length (pivots ps)) × (b.count ≤ 8) × ShowsParts b 0 ps fs
 
     -- the parts from the j-th on
-    pub ShowsParts : Branch-record → ℕ → Parts E → List ℕ → Type 0
+    pub ShowsParts : BranchRecord → ℕ → Parts E → List ℕ → Type 0
     ShowsParts b j none fs = fs ≡ []
     ShowsParts b j (part p col t rest) fs =
         (r : Row E) × (below : List ℕ) × (others : List ℕ) × (slice_get rows (slice_index b.pivots j) ≡ Some r) × (pivot_in r ≡ p) × (column b j ≡ col)

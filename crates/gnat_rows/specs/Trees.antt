@@ -5,7 +5,7 @@ use Rattle.hits.specs.Samples.{Sample}
 use Rattle.gnat_theory.specs.Tree.{Tree, Parts, Range}
 use Rattle.gnat_theory.specs.Tree.Tree.{leaf, branch}
 use Rattle.gnat_theory.specs.Tree.Parts.{none, part}
-use Rattle.gnat_rows.specs.declared.Branch.{Branch as Branch-record}
+use Rattle.gnat_rows.specs.declared.Branch.{Branch as BranchRecord}
 use Rattle.gnat_rows.specs.declared.Node.{Node}
 use Rattle.gnat_rows.specs.declared.Node.TheVariants as node
 use Rattle.gnat_rows.specs.declared.Row.{Row}
@@ -27,7 +27,7 @@ module _ {E : Type 0} where
   part_on below (Some r) col rest = part (pivot_in r) col (below r.node) rest
 
   -- n parts of a branch, from the j-th on
-  abbrev pub parts_by : (Node → Tree E) → List (Row E) → Branch-record → ℕ → ℕ → Parts E
+  abbrev pub parts_by : (Node → Tree E) → List (Row E) → BranchRecord → ℕ → ℕ → Parts E
   parts_by below rows b zero j = none
   parts_by below rows b (suc n) j = part_on below (slice_get rows (slice_index b.pivots j)) (column b j) (parts_by below rows b n (suc j))
 

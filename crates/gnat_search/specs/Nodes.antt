@@ -5,8 +5,8 @@ use Rattle.hits.specs.Samples.{Sample}
 use Rattle.gnat_theory.specs.Tree.{Tree, Parts, pivots}
 use Rattle.gnat_theory.specs.Searching.{State, Sight, start, struck, measure_all, survey, searched}
 use Rattle.gnat_theory.specs.Shapes.{pivot_count}
-use Rattle.gnat_rows.specs.declared.Leaf.{Leaf as Leaf-record}
-use Rattle.gnat_rows.specs.declared.Branch.{Branch as Branch-record}
+use Rattle.gnat_rows.specs.declared.Leaf.{Leaf as LeafRecord}
+use Rattle.gnat_rows.specs.declared.Branch.{Branch as BranchRecord}
 use Rattle.gnat_rows.specs.declared.Node.{Node}
 use Rattle.gnat_rows.specs.declared.Row.{Row}
 use Rattle.gnat_rows.specs.Shows.{HoldsSamples, Shows, ShowsParts, held, column}
@@ -15,11 +15,11 @@ use Rattle.gnat_search.specs.declared.Found.{Found}
 use Rattle.gnat_search.specs.Wants.{want, Kept, Steps}
 
 -- which children the pivots seen strike
-abbrev pub Flags : Branch-record → List Bool → List Sight → Type 0
+abbrev pub Flags : BranchRecord → List Bool → List Sight → Type 0
 Flags b flags ss = (j : ℕ) → j < b.count → slice_index_or flags j false ≡ struck ss (column b j)
 
 -- after i pivots, one more strikes
-abbrev pub StruckMore : Branch-record → ℕ → Sight → List Bool → List Bool → Type 0
+abbrev pub StruckMore : BranchRecord → ℕ → Sight → List Bool → List Bool → Type 0
 StruckMore b i s before after = (ss : List Sight) → length ss ≡ i → Flags b before ss → Flags b after (ss ++ (s ∷ []))
 
 -- the rows of n children from the j-th on, without the struck ones
@@ -29,11 +29,11 @@ open_rows rows flags j (suc n) = cond (slice_index_or flags j false) (open_rows 
 
 module _ {E : Type 0} (rows : List (Row E)) where
   -- the leaf holds samples
-  abbrev pub LeafShown : Leaf-record → Type 0
+  abbrev pub LeafShown : LeafRecord → Type 0
   LeafShown l = (xs : List (Sample E)) × (length l.rows ≡ 32) × (l.count ≤ 32) × HoldsSamples rows (held l) xs
 
   -- the branch has parts
-  abbrev pub BranchShown : Branch-record → Type 0
+  abbrev pub BranchShown : BranchRecord → Type 0
   BranchShown b = (ps : Parts E) × (fs : List ℕ) × (b.count ≡ length (pivots ps)) × (b.count ≤ 8) × ShowsParts rows b 0 ps fs
 
   -- the node shows a tree with at most so many pivots
@@ -42,11 +42,11 @@ module _ {E : Type 0} (rows : List (Row E)) where
 
   module _ (dist : E → E → ℕ) (q : E) (aim : Aim) where
     -- the samples that the leaf holds were measured
-    abbrev pub LeafMeasured : Leaf-record → List Hit → List Hit → Found → Found → Type 0
+    abbrev pub LeafMeasured : LeafRecord → List Hit → List Hit → Found → Found → Type 0
     LeafMeasured l before after p r = (xs : List (Sample E)) → HoldsSamples rows (held l) xs → Steps (measure_all dist q (want aim (length before)) xs) before after p r
 
     -- the pivots of the branch were looked at, and its children struck
-    abbrev pub BranchSurveyed : Branch-record → List Hit → List Hit → Found → Found → List Bool → Type 0
+    abbrev pub BranchSurveyed : BranchRecord → List Hit → List Hit → Found → Found → List Bool → Type 0
     BranchSurveyed b before after p r flags =
         (ps : Parts E) (fs : List ℕ) → b.count ≡ length (pivots ps) → ShowsParts rows b 0 ps fs → (old : List Hit) (st : State) → Kept old before p st
         → Kept old after r (survey dist q (want aim (length before)) ps [] st).1 × Flags b flags (survey dist q (want aim (length before)) ps [] st).0

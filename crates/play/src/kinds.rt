@@ -4,7 +4,7 @@ ghost use Rattle.level.specs.Levels.{Counted, SettingsHold, level_shown};
 ghost use Rattle.level_theory.specs.Levels.{arms, cards};
 ghost use Rattle.player.specs.Calls.{told_calls};
 ghost use Rattle.written.specs.Arms.{arm_numbers, wall_numbers};
-ghost use Rattle.written.specs.Cards.{card_numbers, wall_numbers as card-wall-numbers};
+ghost use Rattle.written.specs.Cards.{card_numbers, wall_numbers as card_wall_numbers};
 ghost use Rattle.play.specs.Levels.{LevelAnswered};
 
 use arm::Arm;
@@ -39,7 +39,7 @@ pub(crate) fn play_arms(level: &Level<Arm, Wall>, out: &mut [u8]) -> Result<usiz
 // A level of cards: its pairs are put to Mix over its walls.
 pub(crate) fn play_cards(level: &Level<Card, CardWall>, out: &mut [u8]) -> Result<usize, OutputFull>
     requires { (Counted level.now) × (SettingsHold level.now.header) }
-    ensures { LevelAnswered (level_shown cards card_numbers card-wall-numbers level.now) out.old (told_calls result) out.new }
+    ensures { LevelAnswered (level_shown cards card_numbers card_wall_numbers level.now) out.old (told_calls result) out.new }
 {
     let vacant = Card { slots: [0; 8] };
     let mut plain = [scan::rows::Row::vacant(vacant); 64];

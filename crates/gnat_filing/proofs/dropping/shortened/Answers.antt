@@ -2,7 +2,7 @@ use Rattle.std.proofs.Common.{◌≡◌, ℕ, ◌+◌, ◌<◌, ◌≤◌, not, 
 use Rattle.std.proofs.lemmas.List.Elements.{filter_more}
 use Rattle.std.proofs.lemmas.List.{take_more_set, append-nil}
 use Rattle.std.proofs.lemmas.Bool.{eq-eqb, ne_eqb, cond-true, cond-false}
-use Rattle.gnat_rows.specs.declared.Leaf.{Leaf as Leaf-record}
+use Rattle.gnat_rows.specs.declared.Leaf.{Leaf as LeafRecord}
 use Rattle.gnat_rows.specs.Shows.{held}
 use Rattle.gnat_filing.specs.Dropping.{without_row}
 use Rattle.gnat_filing.proofs.dropping.shortened.Goals as goal
@@ -20,7 +20,7 @@ loop-i-preserved c =
     let lt : i < length rows = omega arith in
     let room : rest.count < length rest.rows = omega (arith, inv.0, inv.1) in
     let more = filter_more (λ k. not (eqb k at)) rows i 0 lt in
-    let Step : Leaf-record → Type 0 = λ r. (r.count ≤ i + 1) × (length r.rows ≡ 32) × (held r ≡ without_row at (take (i + 1) rows)) in
+    let Step : LeafRecord → Type 0 = λ r. (r.count ≤ i + 1) × (length r.rows ≡ 32) × (held r ≡ without_row at (take (i + 1) rows)) in
     elim c.if-l-i.branch [
       | then-l-i w ↦ subst Step (sym w.rest-is) (
         omega (arith, inv.0),

@@ -47,7 +47,7 @@ node_in-child-requires g c =
     subst (λ z. get_or z j 0 < length rows) (sym c.approach-j.ensures.widens.pivots) ((pivoted rows b c.args.at i.parts r.2 i.ready).within j c.approach-j.ensures.below)
 
 pub lengthened-requires : goal.lengthened-requires
-lengthened-requires g c κs l e =
+lengthened-requires g c l e =
     let rows = c.args.rows.now in
     let b = c.args.b.now in
     let at = c.args.at in

@@ -12,4 +12,4 @@ abbrev pub invariant-loop-i : goal.invariant-loop-i
 invariant-loop-i g l =
     (length l.hits ≡ 16) × (length l.numbers ≡ 64)
     × RoadSound g.I.Index.sound g.I.Index.meaning l.road
-    × Going g.Element.Metric.dist (λ o after. Answered g.Element.Metric.dist (start l.k 64) (map (λ line. set_call g.C.Checker.passes (line_call line l.checker)) l.lines) blank_lists 0 0 l.initial.out o after) (map (λ line. set_call g.C.Checker.passes (line_call line l.checker)) (drop l.i l.lines)) (road_of g.I.Index.meaning l.road) (lent l.hits l.numbers) l.at l.i l.out
+    × Going g.I.Element.Metric.dist (λ o after. Answered g.I.Element.Metric.dist (start l.k 64) (map (λ line. set_call g.C.Checker.passes (line_call line l.checker)) l.lines) blank_lists 0 0 l.initial.out o after) (map (λ line. set_call g.C.Checker.passes (line_call line l.checker)) (drop l.i l.lines)) (road_of g.I.Index.meaning l.road) (lent l.hits l.numbers) l.at l.i l.out
