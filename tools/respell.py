@@ -11,7 +11,7 @@ import glob
 import re
 import sys
 
-WORD = r"[^\s(){}\[\].,;⌜⌝|\"`]+"
+WORD = r"[^\s(){}\[\].,;⌜⌝«»|\"`]+"
 DECLARES = re.compile(r"^\s*((?:(?:abbrev|unfoldable|pub|record|data|mutual)\s+)*)(" + WORD + r")\s*((?:\s*[({][^:(){}]+:.*?[)}])*)\s*:(?:\s|$)")
 BINDERS = re.compile(r"[({λ]\s*((?:" + WORD + r"\s+)*" + WORD + r")\s*(?::|\.)\s")
 STD = re.compile(r"^\s*(?:ghost )?use (?:Rattle\.std|denote|borrow|native|mathlib|Prim|lib)\b[^{]*\{([^}]*)\}")

@@ -254,8 +254,9 @@ pub fn compare_fitting<
     if answers.len() != calls.len() {
         return Err(Unplayed::Answers(calls.len()));
     }
-    if again.len() != others.len() {
-        return Err(Unplayed::Answers(others.len()));
+    let wanted = others.len();
+    if again.len() != wanted {
+        return Err(Unplayed::Answers(wanted));
     }
     all_fit(calls, list.len(), numbers.len())?;
     all_fit(others, copy.len(), twins.len())?;

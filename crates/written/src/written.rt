@@ -50,5 +50,5 @@ pub trait Written: Metric {
 
     // A wall to fill a place with until one is read: all its numbers are 0.
     fn blank_wall() -> Self::Wall
-        ensures { bounds result ≡ replicate (form_of kind).«wall-numbers» 0 };
+        ensures { bounds result ≡ replicate (form_of kind).wall_numbers 0 };
 }

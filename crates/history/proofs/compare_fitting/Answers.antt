@@ -11,7 +11,7 @@ use Rattle.history.proofs.compare_fitting.Goals as goal
 
 pub returns : goal.returns
 returns g c = record {
-  judged = judged_fit _ _ _ _ _ _ _ _ _ _ _ _ c.if-answers-calls.false c.if-again-others.false (sym c.in_ok-all_fit.ensures) (sym c.in_ok-all_fit-2.ensures) c.compare.ensures.judged;
+  judged = judged_fit _ _ _ _ _ _ _ _ _ _ _ _ c.if-answers-calls.false c.if-again-wanted.false (sym c.in_ok-all_fit.ensures) (sym c.in_ok-all_fit-2.ensures) c.compare.ensures.judged;
   kept = c.compare.ensures.kept;
   law = c.compare.ensures.law;
 }
@@ -23,9 +23,9 @@ returns-then-answers-calls g c = record {
   law = λ ok. absurd (let z : ◌≡◌ {A = ℕ} 0 1 = cc in omega arith);
 }
 
-pub returns-then-again-others : goal.returns-then-again-others
-returns-then-again-others g c = record {
-  judged = inr (c.if-answers-calls.false, refl, c.if-again-others.true);
+pub returns-then-again-wanted : goal.returns-then-again-wanted
+returns-then-again-wanted g c = record {
+  judged = inr (c.if-answers-calls.false, refl, c.if-again-wanted.true);
   kept = λ u e. (refl, refl, refl, refl, refl, refl);
   law = λ ok. absurd (let z : ◌≡◌ {A = ℕ} 0 1 = cc in omega arith);
 }
@@ -36,7 +36,7 @@ returns-in_err-all_fit g c =
     let again = fitting (length c.args.copy.now) (length c.args.twins.now) c.args.others.now in
     let e = sym c.in_err-all_fit.ensures in
     rw (p.1, p.2) (record {
-      judged = judged_unfit c.args.k (length c.args.calls.now) (length c.args.answers.now) (length c.args.others.now) (length c.args.again.now) (fitting (length c.args.list.now) (length c.args.numbers.now) c.args.calls.now) again (g.I.Index.meaning c.args.first).capacity (length c.args.links.now) (g.J.Index.meaning c.args.second).capacity (length c.args.spare.now) c.in_err-all_fit.field-0.0 c.if-answers-calls.false c.if-again-others.false (ap (λ z. unless z again) e) (fitting_lists _ _ c.args.calls.now _ e);
+      judged = judged_unfit c.args.k (length c.args.calls.now) (length c.args.answers.now) (length c.args.others.now) (length c.args.again.now) (fitting (length c.args.list.now) (length c.args.numbers.now) c.args.calls.now) again (g.I.Index.meaning c.args.first).capacity (length c.args.links.now) (g.J.Index.meaning c.args.second).capacity (length c.args.spare.now) c.in_err-all_fit.field-0.0 c.if-answers-calls.false c.if-again-wanted.false (ap (λ z. unless z again) e) (fitting_lists _ _ c.args.calls.now _ e);
       kept = λ u e. (refl, refl, refl, refl, refl, refl);
       law = λ ok. absurd (let z : ◌≡◌ {A = ℕ} 0 1 = cc in omega arith);
     })
@@ -47,7 +47,7 @@ returns-in_err-all_fit-2 g c =
     let again = fitting (length c.args.copy.now) (length c.args.twins.now) c.args.others.now in
     let e = sym c.in_err-all_fit-2.ensures in
     rw (p.1, p.2) (record {
-      judged = judged_unfit c.args.k (length c.args.calls.now) (length c.args.answers.now) (length c.args.others.now) (length c.args.again.now) (fitting (length c.args.list.now) (length c.args.numbers.now) c.args.calls.now) again (g.I.Index.meaning c.args.first).capacity (length c.args.links.now) (g.J.Index.meaning c.args.second).capacity (length c.args.spare.now) c.in_err-all_fit-2.field-0.0 c.if-answers-calls.false c.if-again-others.false (ap (λ z. unless z again) (sym c.in_ok-all_fit.ensures) ∙ e) (fitting_lists _ _ c.args.others.now _ e);
+      judged = judged_unfit c.args.k (length c.args.calls.now) (length c.args.answers.now) (length c.args.others.now) (length c.args.again.now) (fitting (length c.args.list.now) (length c.args.numbers.now) c.args.calls.now) again (g.I.Index.meaning c.args.first).capacity (length c.args.links.now) (g.J.Index.meaning c.args.second).capacity (length c.args.spare.now) c.in_err-all_fit-2.field-0.0 c.if-answers-calls.false c.if-again-wanted.false (ap (λ z. unless z again) (sym c.in_ok-all_fit.ensures) ∙ e) (fitting_lists _ _ c.args.others.now _ e);
       kept = λ u e. (refl, refl, refl, refl, refl, refl);
       law = λ ok. absurd (let z : ◌≡◌ {A = ℕ} 0 1 = cc in omega arith);
     })

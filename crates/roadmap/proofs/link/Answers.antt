@@ -17,7 +17,7 @@ loop-i-preserved g c =
     let n = c.args.number in
     let hits = c.args.hits.now in
     let i = c.loop-i.i in
-    let own = c.loop-i.own_val in
+    let own = c.loop-i.own in
     let count = c.loop-i.count in
     let h : Hit = get_or hits i (record { number = 0; distance = 0 }) in
     let l = c.loop-i-test.true in
@@ -35,4 +35,4 @@ loop-i-preserved g c =
     ]
 
 pub returns : goal.returns
-returns g c = link_ends (g.C.Checker.passes c.args.checker.now) c.args.e.now (g.I.Index.meaning c.args.index.now) c.args.number c.args.hits.now c.loop-i.i c.loop-i.own_val c.loop-i.count c.loop-i-test.false c.loop-i.invariant
+returns g c = link_ends (g.C.Checker.passes c.args.checker.now) c.args.e.now (g.I.Index.meaning c.args.index.now) c.args.number c.args.hits.now c.loop-i.i c.loop-i.own c.loop-i.count c.loop-i-test.false c.loop-i.invariant
