@@ -54,7 +54,7 @@ fn calls_to_come(left: usize) -> Stage
 
 // Nothing but the header is read.
 pub(crate) fn start<K: Written>(header: Header) -> Reader<K, K::Wall>
-    ensures level { level_shown kind listed bounds result.level ≡ empty_level kind header }
+    ensures level { level_shown K.kind K.listed K.bounds result.level ≡ empty_level K.kind header }
     ensures header { result.level.header ≡ header }
     ensures stage { result.stage ≡ Stage.WallCount }
     ensures room { Room result }
@@ -79,7 +79,7 @@ fn take_line<K: Written>(
     requires more { reader.old.stage ≢ End }
     requires room { Room reader.old }
     requires place { words.old.place ≡ 1 }
-    ensures told { (line : ℕ) → line_told line kind listed bounds result reader.new ≡ read_line (stage_shown reader.old.stage) line (level_shown kind listed bounds reader.old.level) (words_left words.old) }
+    ensures told { (line : ℕ) → line_told line K.kind K.listed K.bounds result reader.new ≡ read_line (stage_shown reader.old.stage) line (level_shown K.kind K.listed K.bounds reader.old.level) (words_left words.old) }
     ensures header { reader.new.level.header ≡ reader.old.level.header }
     ensures room { Room reader.new }
 {
@@ -118,7 +118,7 @@ pub(crate) fn read_line<K: Written>(
 ) -> Result<(), ReadFault>
     requires short { length line.now ≤ 65536 }
     requires room { Room reader.old }
-    ensures told { line_read kind listed bounds result reader.new ≡ read_line (stage_shown reader.old.stage) number (level_shown kind listed bounds reader.old.level) (words_of line.now) }
+    ensures told { line_read K.kind K.listed K.bounds result reader.new ≡ read_line (stage_shown reader.old.stage) number (level_shown K.kind K.listed K.bounds reader.old.level) (words_of line.now) }
     ensures header { reader.new.level.header ≡ reader.old.level.header }
     ensures room { Room reader.new }
 {

@@ -19,7 +19,7 @@ use written::Written;
 fn read_rest<K: Written>(reader: &mut Reader<K, K::Wall>, text: &[u8]) -> Result<(), ReadFault>
     requires room { Room reader.old }
     requires short { length text.now ≤ 65536 }
-    ensures told { rest_told kind listed bounds result reader.new.level ≡ read_lines (gives (shown_progress kind listed bounds reader.old)) 2 (pieces_of text.now) }
+    ensures told { rest_told K.kind K.listed K.bounds result reader.new.level ≡ read_lines (gives (shown_progress K.kind K.listed K.bounds reader.old)) 2 (pieces_of text.now) }
     ensures header { reader.new.level.header ≡ reader.old.level.header }
     ensures room { Room reader.new }
 {

@@ -51,7 +51,7 @@ fn sample(words: &mut Words) -> Result<u16, Misplaced>
 
 // Takes a hit count or radius, and an element.
 fn query<K: Written>(words: &mut Words) -> Result<(u32, K), Misplaced>
-    ensures { shown_part (λ q. q.0 ∷ listed q.1) result words.new ≡ part (a_number 1048576 ∷ element_wants (form_of kind)) (words_left words.old) words.old.place }
+    ensures { shown_part (λ q. q.0 ∷ K.listed q.1) result words.new ≡ part (a_number 1048576 ∷ element_wants (form_of K.kind)) (words_left words.old) words.old.place }
 {
     let number = words.number(1_048_576)?;
     let element = K::from_words(words)?;
@@ -69,7 +69,7 @@ fn ends(words: &mut Words) -> Result<(u16, u16), Misplaced>
 
 // The words behind the letter of a call. Another word than these letters is wrong, the line's first.
 fn call_words<K: Written>(letter: Option<char>, words: &mut Words) -> Result<CallLine<K>, Misplaced>
-    ensures taken { shown_part (call_numbers listed) result words.new ≡ call_part (form_of kind) (named letter) (words_left words.old) words.old.place }
+    ensures taken { shown_part (call_numbers K.listed) result words.new ≡ call_part (form_of K.kind) (named letter) (words_left words.old) words.old.place }
     ensures called { CallNamed (named letter) result }
 {
     match letter {
@@ -104,7 +104,7 @@ fn call_words<K: Written>(letter: Option<char>, words: &mut Words) -> Result<Cal
 // The first letter says which call it is, and is the whole word.
 pub fn call_line<K: Written>(words: &mut Words) -> Result<CallLine<K>, Misplaced>
     requires { words.old.place ≡ 1 }
-    ensures { (line : ℕ) → call_told line listed result ≡ read_call (form_of kind) line (words_left words.old) }
+    ensures { (line : ℕ) → call_told line K.listed result ≡ read_call (form_of K.kind) line (words_left words.old) }
 {
     let letter = sole_letter(words.next());
     let call = call_words(letter, words)?;

@@ -32,7 +32,7 @@ pub fn count_line(words: &mut Words, name: &[u8], most: u32) -> Result<u32, Misp
 }
 
 pub fn wall_line<K: Written>(words: &mut Words) -> Result<K::Wall, Misplaced>
-    ensures { shown_taken bounds result ≡ take_words (wall_wants (form_of kind)) (words_left words.old) words.old.place }
+    ensures { shown_taken K.bounds result ≡ take_words (wall_wants (form_of K.kind)) (words_left words.old) words.old.place }
 {
     let wall = K::wall_from_words(words)?;
     words.end()?;
