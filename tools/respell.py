@@ -56,6 +56,7 @@ def declared():
             if not code.strip():
                 continue
             names |= {name for name in re.findall(r"[{,][^{},]+ as (" + WORD + r")", code) if wanted(name)}
+            names |= {name for name in re.findall(r"^use \S+ as (" + WORD + r")", code) if wanted(name)}
             depth = len(code) - len(code.lstrip())
             if in_record and depth <= indent:
                 in_record = False

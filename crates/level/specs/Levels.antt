@@ -9,9 +9,9 @@ use Rattle.lines.specs.declared.header.Header.{Header}
 use Rattle.lines.specs.Faults.{fault_number, fault_figures}
 use Rattle.lines.specs.Calls.{call_shown}
 use Rattle.written.specs.Arms.{arm_numbers}
-use Rattle.written.specs.Arms as arm-walls
+use Rattle.written.specs.Arms as arm_walls
 use Rattle.written.specs.Cards.{card_numbers}
-use Rattle.written.specs.Cards as card-walls
+use Rattle.written.specs.Cards as card_walls
 use Rattle.level.specs.declared.level.Level.{Level}
 use Rattle.level.specs.declared.level.AnyLevel.{AnyLevel}
 use Rattle.level.specs.declared.level.AnyLevel.TheVariants.{Arms, Cards}
@@ -35,8 +35,8 @@ rest_told kind listed bounds (Ok u) level = gives (level_shown kind listed bound
 rest_told kind listed bounds (Err fault) level = refuses (fault_number fault) (fault_figures fault)
 
 abbrev pub any_shown : AnyLevel → Meaning
-any_shown (Arms level) = level_shown arms arm_numbers arm-walls.wall_numbers level
-any_shown (Cards level) = level_shown cards card_numbers card-walls.wall_numbers level
+any_shown (Arms level) = level_shown arms arm_numbers arm_walls.wall_numbers level
+any_shown (Cards level) = level_shown cards card_numbers card_walls.wall_numbers level
 
 -- what reading a file tells: the level, or its first fault by number and figures
 abbrev pub told_read : Result AnyLevel ReadFault → Outcome Meaning

@@ -10,86 +10,86 @@ use Rattle.level.specs.Stages.{stage_shown}
 use Rattle.level.proofs.Rooms.{walls_shown, calls_shown, room_wall_count, room_call_count, room_wall, room_call, left_wall, left_call, shown_wall, shown_call}
 use Rattle.level.proofs.Steps.{can_begin, cannot_begin, wall_count_gives, wall_count_lacks, call_count_gives, call_count_lacks, wall_gives, wall_lacks, call_gives, call_lacks}
 use Rattle.level.proofs.reader.take_line.Goals as goal
-use Rattle.level.proofs.reader.take_line.Goals.{in_default·-via-in-WallCount·+in-Digits·, in_default·-via-in-Walls·+in-Letters·, in_default·-via-in-CallCount·+in-Digits·, in_default·-via-in-Calls·+in-Digits·, in_default·-via-in-End·}
+use Rattle.level.proofs.reader.take_line.Goals.{in_default-via-in-WallCount+in-Digits-1, in_default-via-in-Walls+in-Letters-1, in_default-via-in-CallCount+in-Digits-1, in_default-via-in-Calls+in-Digits-1, in_default-via-in-End-1}
 
-pub returns-in_err-count : goal.returns-in_err-count
-returns-in_err-count g c =
+pub returns-in_err-count-in-WallCount-Letters : goal.returns-in_err-count-in-WallCount-Letters
+returns-in_err-count-in-WallCount-Letters g c =
     let p = err_from_is_err_and c.from_residual.result c.from_residual.ensures.1 in
     record {
-      told = λ line. rw (p.1, p.2) (wall_count_lacks line (level_shown g.K.Written.kind g.K.Written.listed g.K.Written.bounds c.args.reader.now.level) (words_left c.args.words.now) c.args.words.now.place c.requires.place (stage_shown c.args.reader.now.stage) (ap stage_shown c.in-WallCount-Letters.is-0) c.in_err-count.field-0.0.0 c.in_err-count.ensures.taken);
+      told = λ line. rw (p.1, p.2) (wall_count_lacks line (level_shown g.K.Written.kind g.K.Written.listed g.K.Written.bounds c.args.reader.now.level) (words_left c.args.words.now) c.args.words.now.place c.requires.place (stage_shown c.args.reader.now.stage) (ap stage_shown c.in-WallCount-Letters.is-0) c.in_err-count-in-WallCount-Letters.field-0.0.0 c.in_err-count-in-WallCount-Letters.ensures.taken);
       header = refl;
       room = c.requires.room;
     }
 
-pub returns-in_err-wall : goal.returns-in_err-wall
-returns-in_err-wall g c =
-    let p = err_from_is_err_and c.from_residual-in_err-wall.result c.from_residual-in_err-wall.ensures.1 in
+pub returns-in_err-wall-in-Walls-Digits : goal.returns-in_err-wall-in-Walls-Digits
+returns-in_err-wall-in-Walls-Digits g c =
+    let p = err_from_is_err_and c.from_residual-in_err-wall-in-Walls-Digits.result c.from_residual-in_err-wall-in-Walls-Digits.ensures.1 in
     record {
-      told = λ line. rw (p.1, p.2) (wall_lacks line (level_shown g.K.Written.kind g.K.Written.listed g.K.Written.bounds c.args.reader.now.level) (words_left c.args.words.now) c.args.words.now.place c.requires.place (stage_shown c.args.reader.now.stage) c.in-Walls-Digits.left (left_wall c.args.reader.now.level c.args.reader.now.stage c.requires.room c.in-Walls-Digits.left c.in-Walls-Digits.is-0).0 (ap stage_shown c.in-Walls-Digits.is-0) c.in_err-wall.field-0.0.0 c.in_err-wall.ensures);
+      told = λ line. rw (p.1, p.2) (wall_lacks line (level_shown g.K.Written.kind g.K.Written.listed g.K.Written.bounds c.args.reader.now.level) (words_left c.args.words.now) c.args.words.now.place c.requires.place (stage_shown c.args.reader.now.stage) c.in-Walls-Digits.left (left_wall c.args.reader.now.level c.args.reader.now.stage c.requires.room c.in-Walls-Digits.left c.in-Walls-Digits.is-0).0 (ap stage_shown c.in-Walls-Digits.is-0) c.in_err-wall-in-Walls-Digits.field-0.0.0 c.in_err-wall-in-Walls-Digits.ensures);
       header = refl;
       room = c.requires.room;
     }
 
-pub returns-in_err-count-2 : goal.returns-in_err-count-2
-returns-in_err-count-2 g c =
-    let p = err_from_is_err_and c.from_residual-in_err-count-2.result c.from_residual-in_err-count-2.ensures.1 in
+pub returns-in_err-count-in-CallCount-Letters : goal.returns-in_err-count-in-CallCount-Letters
+returns-in_err-count-in-CallCount-Letters g c =
+    let p = err_from_is_err_and c.from_residual-in_err-count-in-CallCount-Letters.result c.from_residual-in_err-count-in-CallCount-Letters.ensures.1 in
     record {
-      told = λ line. rw (p.1, p.2) (call_count_lacks line (level_shown g.K.Written.kind g.K.Written.listed g.K.Written.bounds c.args.reader.now.level) (words_left c.args.words.now) c.args.words.now.place c.requires.place (stage_shown c.args.reader.now.stage) (ap stage_shown c.in-CallCount-Letters.is-0) c.in_err-count-2.field-0.0.0 c.in_err-count-2.ensures.taken);
+      told = λ line. rw (p.1, p.2) (call_count_lacks line (level_shown g.K.Written.kind g.K.Written.listed g.K.Written.bounds c.args.reader.now.level) (words_left c.args.words.now) c.args.words.now.place c.requires.place (stage_shown c.args.reader.now.stage) (ap stage_shown c.in-CallCount-Letters.is-0) c.in_err-count-in-CallCount-Letters.field-0.0.0 c.in_err-count-in-CallCount-Letters.ensures.taken);
       header = refl;
       room = c.requires.room;
     }
 
-pub returns-in_err-call : goal.returns-in_err-call
-returns-in_err-call g c =
-    let p = err_from_is_err_and c.from_residual-in_err-call.result c.from_residual-in_err-call.ensures.1 in
+pub returns-in_err-call-in-Calls-Letters : goal.returns-in_err-call-in-Calls-Letters
+returns-in_err-call-in-Calls-Letters g c =
+    let p = err_from_is_err_and c.from_residual-in_err-call-in-Calls-Letters.result c.from_residual-in_err-call-in-Calls-Letters.ensures.1 in
     record {
-      told = λ line. rw (p.1, p.2) (call_lacks line (level_shown g.K.Written.kind g.K.Written.listed g.K.Written.bounds c.args.reader.now.level) (words_left c.args.words.now) c.args.words.now.place c.requires.place (stage_shown c.args.reader.now.stage) c.in-Calls-Letters.left (left_call c.args.reader.now.level c.args.reader.now.stage c.requires.room c.in-Calls-Letters.left c.in-Calls-Letters.is-0).0 (ap stage_shown c.in-Calls-Letters.is-0) c.in_err-call.field-0.0.0 (c.in_err-call.ensures line));
+      told = λ line. rw (p.1, p.2) (call_lacks line (level_shown g.K.Written.kind g.K.Written.listed g.K.Written.bounds c.args.reader.now.level) (words_left c.args.words.now) c.args.words.now.place c.requires.place (stage_shown c.args.reader.now.stage) c.in-Calls-Letters.left (left_call c.args.reader.now.level c.args.reader.now.stage c.requires.room c.in-Calls-Letters.left c.in-Calls-Letters.is-0).0 (ap stage_shown c.in-Calls-Letters.is-0) c.in_err-call-in-Calls-Letters.field-0.0.0 (c.in_err-call-in-Calls-Letters.ensures line));
       header = refl;
       room = c.requires.room;
     }
 
-pub returns-in_ok-count : goal.returns-in_ok-count
-returns-in_ok-count g c = record {
-  told = λ line. wall_count_gives line (level_shown g.K.Written.kind g.K.Written.listed g.K.Written.bounds c.args.reader.now.level) (words_left c.args.words.now) c.args.words.now.place c.requires.place (stage_shown c.args.reader.now.stage) (ap stage_shown c.in-WallCount-Letters.is-0) c.in_ok-count.count (stage_shown c.walls_to_come-reader.result) c.in_ok-count.ensures.taken (ap stage_shown c.walls_to_come-reader.ensures ∙ walls_shown c.in_ok-count.count);
+pub returns-in_ok-count-in-WallCount-Letters : goal.returns-in_ok-count-in-WallCount-Letters
+returns-in_ok-count-in-WallCount-Letters g c = record {
+  told = λ line. wall_count_gives line (level_shown g.K.Written.kind g.K.Written.listed g.K.Written.bounds c.args.reader.now.level) (words_left c.args.words.now) c.args.words.now.place c.requires.place (stage_shown c.args.reader.now.stage) (ap stage_shown c.in-WallCount-Letters.is-0) c.in_ok-count-in-WallCount-Letters.count (stage_shown c.walls_to_come-reader.result) c.in_ok-count-in-WallCount-Letters.ensures.taken (ap stage_shown c.walls_to_come-reader.ensures ∙ walls_shown c.in_ok-count-in-WallCount-Letters.count);
   header = refl;
-  room = room_wall_count c.args.reader.now.level c.args.reader.now.stage c.requires.room c.in_ok-count.count c.walls_to_come-reader.result c.in-WallCount-Letters.is-0 c.in_ok-count.ensures.most c.walls_to_come-reader.ensures;
+  room = room_wall_count c.args.reader.now.level c.args.reader.now.stage c.requires.room c.in_ok-count-in-WallCount-Letters.count c.walls_to_come-reader.result c.in-WallCount-Letters.is-0 c.in_ok-count-in-WallCount-Letters.ensures.most c.walls_to_come-reader.ensures;
 }
 
-pub returns-in_ok-count-2 : goal.returns-in_ok-count-2
-returns-in_ok-count-2 g c = record {
-  told = λ line. call_count_gives line (level_shown g.K.Written.kind g.K.Written.listed g.K.Written.bounds c.args.reader.now.level) (words_left c.args.words.now) c.args.words.now.place c.requires.place (stage_shown c.args.reader.now.stage) (ap stage_shown c.in-CallCount-Letters.is-0) c.in_ok-count-2.count (stage_shown c.calls_to_come-reader.result) c.in_ok-count-2.ensures.taken (ap stage_shown c.calls_to_come-reader.ensures ∙ calls_shown c.in_ok-count-2.count);
+pub returns-in_ok-count-in-CallCount-Letters : goal.returns-in_ok-count-in-CallCount-Letters
+returns-in_ok-count-in-CallCount-Letters g c = record {
+  told = λ line. call_count_gives line (level_shown g.K.Written.kind g.K.Written.listed g.K.Written.bounds c.args.reader.now.level) (words_left c.args.words.now) c.args.words.now.place c.requires.place (stage_shown c.args.reader.now.stage) (ap stage_shown c.in-CallCount-Letters.is-0) c.in_ok-count-in-CallCount-Letters.count (stage_shown c.calls_to_come-reader.result) c.in_ok-count-in-CallCount-Letters.ensures.taken (ap stage_shown c.calls_to_come-reader.ensures ∙ calls_shown c.in_ok-count-in-CallCount-Letters.count);
   header = refl;
-  room = room_call_count c.args.reader.now.level c.args.reader.now.stage c.requires.room c.in_ok-count-2.count c.calls_to_come-reader.result c.in-CallCount-Letters.is-0 c.in_ok-count-2.ensures.most c.calls_to_come-reader.ensures;
+  room = room_call_count c.args.reader.now.level c.args.reader.now.stage c.requires.room c.in_ok-count-in-CallCount-Letters.count c.calls_to_come-reader.result c.in-CallCount-Letters.is-0 c.in_ok-count-in-CallCount-Letters.ensures.most c.calls_to_come-reader.ensures;
 }
 
-pub returns-in_ok-wall : goal.returns-in_ok-wall
-returns-in_ok-wall g c =
+pub returns-in_ok-wall-in-Walls-Digits : goal.returns-in_ok-wall-in-Walls-Digits
+returns-in_ok-wall-in-Walls-Digits g c =
     let s = left_wall c.args.reader.now.level c.args.reader.now.stage c.requires.room c.in-Walls-Digits.left c.in-Walls-Digits.is-0 in
     let h : c.args.reader.now.level.wall_count < length c.args.reader.now.level.walls = omega (arith, s.1, c.requires.room.wall_places) in
     record {
-      told = λ line. wall_gives line (level_shown g.K.Written.kind g.K.Written.listed g.K.Written.bounds c.args.reader.now.level) (words_left c.args.words.now) c.args.words.now.place c.requires.place (stage_shown c.args.reader.now.stage) c.in-Walls-Digits.left s.0 (ap stage_shown c.in-Walls-Digits.is-0) (g.K.Written.bounds c.in_ok-wall.wall) (stage_shown c.walls_to_come-reader-in-Walls-Digits.result) (level_shown g.K.Written.kind g.K.Written.listed g.K.Written.bounds c.push_wall.new.level) c.in_ok-wall.ensures
+      told = λ line. wall_gives line (level_shown g.K.Written.kind g.K.Written.listed g.K.Written.bounds c.args.reader.now.level) (words_left c.args.words.now) c.args.words.now.place c.requires.place (stage_shown c.args.reader.now.stage) c.in-Walls-Digits.left s.0 (ap stage_shown c.in-Walls-Digits.is-0) (g.K.Written.bounds c.in_ok-wall-in-Walls-Digits.wall) (stage_shown c.walls_to_come-reader-in-Walls-Digits.result) (level_shown g.K.Written.kind g.K.Written.listed g.K.Written.bounds c.push_wall.new.level) c.in_ok-wall-in-Walls-Digits.ensures
           (ap stage_shown c.walls_to_come-reader-in-Walls-Digits.ensures ∙ walls_shown (c.in-Walls-Digits.left - 1))
-          (ap (level_shown g.K.Written.kind g.K.Written.listed g.K.Written.bounds) c.push_wall.ensures ∙ shown_wall g.K.Written.kind g.K.Written.listed g.K.Written.bounds c.args.reader.now.level c.in_ok-wall.wall h);
+          (ap (level_shown g.K.Written.kind g.K.Written.listed g.K.Written.bounds) c.push_wall.ensures ∙ shown_wall g.K.Written.kind g.K.Written.listed g.K.Written.bounds c.args.reader.now.level c.in_ok-wall-in-Walls-Digits.wall h);
       header = ap (λ l. l.header) c.push_wall.ensures;
-      room = room_wall c.args.reader.now.level c.args.reader.now.stage c.requires.room c.in-Walls-Digits.left c.in_ok-wall.wall c.push_wall.new.level c.walls_to_come-reader-in-Walls-Digits.result c.in-Walls-Digits.is-0 c.push_wall.ensures c.walls_to_come-reader-in-Walls-Digits.ensures;
+      room = room_wall c.args.reader.now.level c.args.reader.now.stage c.requires.room c.in-Walls-Digits.left c.in_ok-wall-in-Walls-Digits.wall c.push_wall.new.level c.walls_to_come-reader-in-Walls-Digits.result c.in-Walls-Digits.is-0 c.push_wall.ensures c.walls_to_come-reader-in-Walls-Digits.ensures;
     }
 
-pub returns-in_ok-call : goal.returns-in_ok-call
-returns-in_ok-call g c =
+pub returns-in_ok-call-in-Calls-Letters : goal.returns-in_ok-call-in-Calls-Letters
+returns-in_ok-call-in-Calls-Letters g c =
     let s = left_call c.args.reader.now.level c.args.reader.now.stage c.requires.room c.in-Calls-Letters.left c.in-Calls-Letters.is-0 in
     let h : c.args.reader.now.level.call_count < length c.args.reader.now.level.calls = omega (arith, s.1, c.requires.room.call_places) in
     record {
-      told = λ line. call_gives line (level_shown g.K.Written.kind g.K.Written.listed g.K.Written.bounds c.args.reader.now.level) (words_left c.args.words.now) c.args.words.now.place c.requires.place (stage_shown c.args.reader.now.stage) c.in-Calls-Letters.left s.0 (ap stage_shown c.in-Calls-Letters.is-0) (call_shown g.K.Written.listed c.in_ok-call.call) (stage_shown c.calls_to_come-reader-in-Calls-Letters.result) (level_shown g.K.Written.kind g.K.Written.listed g.K.Written.bounds c.push_call.new.level) (c.in_ok-call.ensures line)
+      told = λ line. call_gives line (level_shown g.K.Written.kind g.K.Written.listed g.K.Written.bounds c.args.reader.now.level) (words_left c.args.words.now) c.args.words.now.place c.requires.place (stage_shown c.args.reader.now.stage) c.in-Calls-Letters.left s.0 (ap stage_shown c.in-Calls-Letters.is-0) (call_shown g.K.Written.listed c.in_ok-call-in-Calls-Letters.call) (stage_shown c.calls_to_come-reader-in-Calls-Letters.result) (level_shown g.K.Written.kind g.K.Written.listed g.K.Written.bounds c.push_call.new.level) (c.in_ok-call-in-Calls-Letters.ensures line)
           (ap stage_shown c.calls_to_come-reader-in-Calls-Letters.ensures ∙ calls_shown (c.in-Calls-Letters.left - 1))
-          (ap (level_shown g.K.Written.kind g.K.Written.listed g.K.Written.bounds) c.push_call.ensures ∙ shown_call g.K.Written.kind g.K.Written.listed g.K.Written.bounds c.args.reader.now.level c.in_ok-call.call h);
+          (ap (level_shown g.K.Written.kind g.K.Written.listed g.K.Written.bounds) c.push_call.ensures ∙ shown_call g.K.Written.kind g.K.Written.listed g.K.Written.bounds c.args.reader.now.level c.in_ok-call-in-Calls-Letters.call h);
       header = ap (λ l. l.header) c.push_call.ensures;
-      room = room_call c.args.reader.now.level c.args.reader.now.stage c.requires.room c.in-Calls-Letters.left c.in_ok-call.call c.push_call.new.level c.calls_to_come-reader-in-Calls-Letters.result c.in-Calls-Letters.is-0 c.push_call.ensures c.calls_to_come-reader-in-Calls-Letters.ensures;
+      room = room_call c.args.reader.now.level c.args.reader.now.stage c.requires.room c.in-Calls-Letters.left c.in_ok-call-in-Calls-Letters.call c.push_call.new.level c.calls_to_come-reader-in-Calls-Letters.result c.in-Calls-Letters.is-0 c.push_call.ensures c.calls_to_come-reader-in-Calls-Letters.ensures;
     }
 
 pub returns-in_default : goal.returns-in_default
 returns-in_default g c =
     let first = c.peek.ensures ∙ ap (first_word (words_left c.args.words.now)) c.requires.place in
-    let f : can_begin c.args.reader.now.stage (shown c.peek.result) ≡ false = elim c.in_default·.branch [ in_default·-via-in-WallCount·+in-Digits· w ↦ search rules | in_default·-via-in-Walls·+in-Letters· w ↦ search rules | in_default·-via-in-CallCount·+in-Digits· w ↦ search rules | in_default·-via-in-Calls·+in-Digits· w ↦ search rules | in_default·-via-in-End· w ↦ search rules ] in
+    let f : can_begin c.args.reader.now.stage (shown c.peek.result) ≡ false = elim c.in_default-1.branch [ in_default-via-in-WallCount+in-Digits-1 w ↦ search rules | in_default-via-in-Walls+in-Letters-1 w ↦ search rules | in_default-via-in-CallCount+in-Digits-1 w ↦ search rules | in_default-via-in-Calls+in-Digits-1 w ↦ search rules | in_default-via-in-End-1 w ↦ search rules ] in
     record {
       told = λ line. ap (λ i. refuses 8 (line ∷ (i ∷ []))) (c.place.ensures ∙ ap place_of first ∙ place_first (words_left c.args.words.now) 1)
           ∙ cannot_begin line (level_shown g.K.Written.kind g.K.Written.listed g.K.Written.bounds c.args.reader.now.level) (words_left c.args.words.now) c.args.reader.now.stage (shown c.peek.result) first c.requires.room.some c.requires.more f;

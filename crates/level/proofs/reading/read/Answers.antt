@@ -3,9 +3,9 @@ use Rattle.std.proofs.lemmas.Result.{err_from_is_err_and}
 use Rattle.level_theory.specs.Levels.{arms, cards}
 use Rattle.level_theory.specs.Reading.{header_level}
 use Rattle.written.specs.Arms.{arm_numbers}
-use Rattle.written.specs.Arms as arm-walls
+use Rattle.written.specs.Arms as arm_walls
 use Rattle.written.specs.Cards.{card_numbers}
-use Rattle.written.specs.Cards as card-walls
+use Rattle.written.specs.Cards as card_walls
 use Rattle.lines.specs.Headers.{kind_shown, header_numbers}
 use Rattle.level.specs.Levels.{level_shown, SettingsHold}
 use Rattle.level.specs.Stages.{stage_shown}
@@ -27,30 +27,30 @@ returns-in_err-kind c =
       fits = tt;
     })
 
-pub returns-in_err-read_rest : goal.returns-in_err-read_rest
-returns-in_err-read_rest c =
-    let p = err_from_is_err_and c.from_residual-in_err-read_rest.result c.from_residual-in_err-read_rest.ensures.1 in
+pub returns-in_err-read_rest-in-Arms : goal.returns-in_err-read_rest-in-Arms
+returns-in_err-read_rest-in-Arms c =
+    let p = err_from_is_err_and c.from_residual-in_err-read_rest-in-Arms.result c.from_residual-in_err-read_rest-in-Arms.ensures.1 in
     rw (p.1, p.2) (record {
-      told = c.in_err-read_rest.ensures.told ∙ header_goes c.args.bytes.now c.if-bytes-gt65536.false c.in-Some.line.now c.in-Some.rest.now c.in-Some.ensures.0 (header_level (kind_shown c.in_ok-kind.kind) (header_numbers c.in_ok-kind.header)) (stage_shown c.start-reader.result.stage) (level_shown arms arm_numbers arm-walls.wall_numbers c.start-reader.result.level) c.in_ok-kind.ensures.told (ap stage_shown c.start-reader.ensures.stage) (c.start-reader.ensures.level ∙ ap (λ k. header_level (kind_shown k) (header_numbers c.in_ok-kind.header)) (sym c.in-Arms.is));
+      told = c.in_err-read_rest-in-Arms.ensures.told ∙ header_goes c.args.bytes.now c.if-bytes-gt65536.false c.in-Some.line.now c.in-Some.rest.now c.in-Some.ensures.0 (header_level (kind_shown c.in_ok-kind.kind) (header_numbers c.in_ok-kind.header)) (stage_shown c.start-reader.result.stage) (level_shown arms arm_numbers arm_walls.wall_numbers c.start-reader.result.level) c.in_ok-kind.ensures.told (ap stage_shown c.start-reader.ensures.stage) (c.start-reader.ensures.level ∙ ap (λ k. header_level (kind_shown k) (header_numbers c.in_ok-kind.header)) (sym c.in-Arms.is));
       fits = tt;
     })
 
-pub returns-in_ok-read_rest : goal.returns-in_ok-read_rest
-returns-in_ok-read_rest c = record {
-  told = c.in_ok-read_rest.ensures.told ∙ header_goes c.args.bytes.now c.if-bytes-gt65536.false c.in-Some.line.now c.in-Some.rest.now c.in-Some.ensures.0 (header_level (kind_shown c.in_ok-kind.kind) (header_numbers c.in_ok-kind.header)) (stage_shown c.start-reader.result.stage) (level_shown arms arm_numbers arm-walls.wall_numbers c.start-reader.result.level) c.in_ok-kind.ensures.told (ap stage_shown c.start-reader.ensures.stage) (c.start-reader.ensures.level ∙ ap (λ k. header_level (kind_shown k) (header_numbers c.in_ok-kind.header)) (sym c.in-Arms.is));
+pub returns-in_ok-read_rest-in-Arms : goal.returns-in_ok-read_rest-in-Arms
+returns-in_ok-read_rest-in-Arms c = record {
+  told = c.in_ok-read_rest-in-Arms.ensures.told ∙ header_goes c.args.bytes.now c.if-bytes-gt65536.false c.in-Some.line.now c.in-Some.rest.now c.in-Some.ensures.0 (header_level (kind_shown c.in_ok-kind.kind) (header_numbers c.in_ok-kind.header)) (stage_shown c.start-reader.result.stage) (level_shown arms arm_numbers arm_walls.wall_numbers c.start-reader.result.level) c.in_ok-kind.ensures.told (ap stage_shown c.start-reader.ensures.stage) (c.start-reader.ensures.level ∙ ap (λ k. header_level (kind_shown k) (header_numbers c.in_ok-kind.header)) (sym c.in-Arms.is));
   fits = (counted c.read_rest.new.reader c.read_rest.ensures.room, subst SettingsHold (sym (c.read_rest.ensures.header ∙ c.start-reader.ensures.header)) c.in_ok-kind.ensures.settings);
 }
 
-pub returns-in_err-read_rest-2 : goal.returns-in_err-read_rest-2
-returns-in_err-read_rest-2 c =
-    let p = err_from_is_err_and c.from_residual-in_err-read_rest-2.result c.from_residual-in_err-read_rest-2.ensures.1 in
+pub returns-in_err-read_rest-in-Cards : goal.returns-in_err-read_rest-in-Cards
+returns-in_err-read_rest-in-Cards c =
+    let p = err_from_is_err_and c.from_residual-in_err-read_rest-in-Cards.result c.from_residual-in_err-read_rest-in-Cards.ensures.1 in
     rw (p.1, p.2) (record {
-      told = c.in_err-read_rest-2.ensures.told ∙ header_goes c.args.bytes.now c.if-bytes-gt65536.false c.in-Some.line.now c.in-Some.rest.now c.in-Some.ensures.0 (header_level (kind_shown c.in_ok-kind.kind) (header_numbers c.in_ok-kind.header)) (stage_shown c.start-reader-in-Cards.result.stage) (level_shown cards card_numbers card-walls.wall_numbers c.start-reader-in-Cards.result.level) c.in_ok-kind.ensures.told (ap stage_shown c.start-reader-in-Cards.ensures.stage) (c.start-reader-in-Cards.ensures.level ∙ ap (λ k. header_level (kind_shown k) (header_numbers c.in_ok-kind.header)) (sym c.in-Cards.is));
+      told = c.in_err-read_rest-in-Cards.ensures.told ∙ header_goes c.args.bytes.now c.if-bytes-gt65536.false c.in-Some.line.now c.in-Some.rest.now c.in-Some.ensures.0 (header_level (kind_shown c.in_ok-kind.kind) (header_numbers c.in_ok-kind.header)) (stage_shown c.start-reader-in-Cards.result.stage) (level_shown cards card_numbers card_walls.wall_numbers c.start-reader-in-Cards.result.level) c.in_ok-kind.ensures.told (ap stage_shown c.start-reader-in-Cards.ensures.stage) (c.start-reader-in-Cards.ensures.level ∙ ap (λ k. header_level (kind_shown k) (header_numbers c.in_ok-kind.header)) (sym c.in-Cards.is));
       fits = tt;
     })
 
-pub returns-in_ok-read_rest-2 : goal.returns-in_ok-read_rest-2
-returns-in_ok-read_rest-2 c = record {
-  told = c.in_ok-read_rest-2.ensures.told ∙ header_goes c.args.bytes.now c.if-bytes-gt65536.false c.in-Some.line.now c.in-Some.rest.now c.in-Some.ensures.0 (header_level (kind_shown c.in_ok-kind.kind) (header_numbers c.in_ok-kind.header)) (stage_shown c.start-reader-in-Cards.result.stage) (level_shown cards card_numbers card-walls.wall_numbers c.start-reader-in-Cards.result.level) c.in_ok-kind.ensures.told (ap stage_shown c.start-reader-in-Cards.ensures.stage) (c.start-reader-in-Cards.ensures.level ∙ ap (λ k. header_level (kind_shown k) (header_numbers c.in_ok-kind.header)) (sym c.in-Cards.is));
+pub returns-in_ok-read_rest-in-Cards : goal.returns-in_ok-read_rest-in-Cards
+returns-in_ok-read_rest-in-Cards c = record {
+  told = c.in_ok-read_rest-in-Cards.ensures.told ∙ header_goes c.args.bytes.now c.if-bytes-gt65536.false c.in-Some.line.now c.in-Some.rest.now c.in-Some.ensures.0 (header_level (kind_shown c.in_ok-kind.kind) (header_numbers c.in_ok-kind.header)) (stage_shown c.start-reader-in-Cards.result.stage) (level_shown cards card_numbers card_walls.wall_numbers c.start-reader-in-Cards.result.level) c.in_ok-kind.ensures.told (ap stage_shown c.start-reader-in-Cards.ensures.stage) (c.start-reader-in-Cards.ensures.level ∙ ap (λ k. header_level (kind_shown k) (header_numbers c.in_ok-kind.header)) (sym c.in-Cards.is));
   fits = (counted c.read_rest-in-Cards.new.reader c.read_rest-in-Cards.ensures.room, subst SettingsHold (sym (c.read_rest-in-Cards.ensures.header ∙ c.start-reader-in-Cards.ensures.header)) c.in_ok-kind.ensures.settings);
 }
