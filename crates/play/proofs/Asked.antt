@@ -13,7 +13,7 @@ use Rattle.card_checker.specs.declared.MixChecker.{MixChecker}
 use Rattle.card_checker.specs.Passes.{mix_passes}
 use Rattle.level_theory.specs.Levels.{arms, cards}
 use Rattle.written.specs.Arms as arm_written
-use Rattle.written.specs.Cards as card-written
+use Rattle.written.specs.Cards as card_written
 use Rattle.history_theory.specs.History.{start}
 use Rattle.lines.specs.declared.calls.CallLine.{CallLine}
 use Rattle.lines.specs.declared.calls.CallLine.TheVariants as line
@@ -56,8 +56,8 @@ arms_answered checker walls lent lines k out o after e f x =
     subst P (ap (map (λ l. set_call step_pairs (line_call l checker))) f ∙ sym (all_calls arm_written.arm_numbers arm_written.arm_of arm_written.arm_faithful step_pairs checker (step_passes (map arm_written.wall_of (map arm_written.wall_numbers walls))) pairs lines)) x
 
 -- levels of cards
-pub cards_answered : (checker : MixChecker) (walls : List CardWall) (lent lines : List (CallLine Card)) (k : ℕ) (out : List ℕ) (o : Outcome ℕ) (after : List ℕ) → checker.walls.now ≡ walls → lent ≡ lines → Answered card_distance (start k 64) (map (λ l. set_call mix_pairs (line_call l checker)) lent) blank_lists 0 0 out o after → KindAnswered cards k (map card-written.wall_numbers walls) (map (call_shown card-written.card_numbers) lines) out o after
+pub cards_answered : (checker : MixChecker) (walls : List CardWall) (lent lines : List (CallLine Card)) (k : ℕ) (out : List ℕ) (o : Outcome ℕ) (after : List ℕ) → checker.walls.now ≡ walls → lent ≡ lines → Answered card_distance (start k 64) (map (λ l. set_call mix_pairs (line_call l checker)) lent) blank_lists 0 0 out o after → KindAnswered cards k (map card_written.wall_numbers walls) (map (call_shown card_written.card_numbers) lines) out o after
 cards_answered checker walls lent lines k out o after e f x =
     let P : List (Call Card (Pairs Card)) → Type 0 = λ cs. Answered card_distance (start k 64) cs blank_lists 0 0 out o after in
-    let pairs : mix_passes (map card-written.wall_of (map card-written.wall_numbers walls)) ≡ mix_passes checker.walls.now = ap mix_passes (built_back card-written.wall_numbers card-written.wall_of card-written.wall_faithful walls ∙ sym e) in
-    subst P (ap (map (λ l. set_call mix_pairs (line_call l checker))) f ∙ sym (all_calls card-written.card_numbers card-written.card_of card-written.card_faithful mix_pairs checker (mix_passes (map card-written.wall_of (map card-written.wall_numbers walls))) pairs lines)) x
+    let pairs : mix_passes (map card_written.wall_of (map card_written.wall_numbers walls)) ≡ mix_passes checker.walls.now = ap mix_passes (built_back card_written.wall_numbers card_written.wall_of card_written.wall_faithful walls ∙ sym e) in
+    subst P (ap (map (λ l. set_call mix_pairs (line_call l checker))) f ∙ sym (all_calls card_written.card_numbers card_written.card_of card_written.card_faithful mix_pairs checker (mix_passes (map card_written.wall_of (map card_written.wall_numbers walls))) pairs lines)) x

@@ -5,7 +5,7 @@ use Rattle.std.proofs.lemmas.Fmt.{length-decimal-le}
 use Rattle.arm_checkers.specs.Passes.{step_passes}
 use Rattle.card_checker.specs.Passes.{mix_passes}
 use Rattle.written.specs.Arms.{arm_of, wall_of}
-use Rattle.written.specs.Cards as cards-written
+use Rattle.written.specs.Cards as cards_written
 use Rattle.printing.proofs.Words.{tail_of, line_len}
 use Rattle.play_theory.proofs.Counting.{answered_small}
 use Rattle.index.specs.Outcomes.{Outcome, gives, refuses}
@@ -74,7 +74,7 @@ length_mapped f (x ∷ xs) = ap suc (length_mapped f xs)
 -- a fault of playing
 kind_small : (kind : Kind) (k : ℕ) (walls : List (List ℕ)) (calls : List LineCall) (out : List ℕ) (o : Outcome ℕ) (after : List ℕ) → length calls ≤ 1048576 → KindAnswered kind k walls calls out o after → SmallTold o
 kind_small arms k walls calls out o after h x = answered_small _ _ _ _ 0 0 out o after (omega (arith, length_mapped (level_call arm_of (step_passes (map wall_of walls))) calls)) x
-kind_small cards k walls calls out o after h x = answered_small _ _ _ _ 0 0 out o after (omega (arith, length_mapped (level_call cards-written.card_of (mix_passes (map cards-written.wall_of walls))) calls)) x
+kind_small cards k walls calls out o after h x = answered_small _ _ _ _ 0 0 out o after (omega (arith, length_mapped (level_call cards_written.card_of (mix_passes (map cards_written.wall_of walls))) calls)) x
 
 pub playing_fits : {E W : Type 0} (kind : Kind) (listed : E → List ℕ) (bounds : W → List ℕ) (level : Read E W) (out : List ℕ) (full : OutputFull) (after : List ℕ) → Counted level → LevelAnswered (level_shown kind listed bounds level) out (refuses 11 (full.0 ∷ [])) after → length (fault_line (Output full)) ≤ 32
 playing_fits kind listed bounds level out full after c x =

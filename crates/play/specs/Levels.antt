@@ -11,7 +11,7 @@ use Rattle.history.specs.declared.Call.TheVariants as call
 use Rattle.level_theory.specs.Levels.{Kind, arms, cards, LineCall, call_add, call_drop, call_near, call_within, call_island, call_route, Level}
 use Rattle.level_theory.specs.Reading.{reading}
 use Rattle.written.specs.Arms.{arm_of, wall_of}
-use Rattle.written.specs.Cards as cards-written
+use Rattle.written.specs.Cards as cards_written
 use Rattle.play_theory.specs.Answering.{Pairs, Answered}
 use Rattle.player.specs.Calls.{blank_lists}
 
@@ -27,7 +27,7 @@ level_call made passes (call_route a b) = call.Route a b 64
 -- the calls of a level of arms are checked by Step over its walls, those of a level of cards by Mix
 abbrev pub KindAnswered : Kind → ℕ → List (List ℕ) → List LineCall → List ℕ → Outcome ℕ → List ℕ → Type 0
 KindAnswered arms k walls calls out o after = Answered pose_distance (start k 64) (map (level_call arm_of (step_passes (map wall_of walls))) calls) blank_lists 0 0 out o after
-KindAnswered cards k walls calls out o after = Answered card_distance (start k 64) (map (level_call cards-written.card_of (mix_passes (map cards-written.wall_of walls))) calls) blank_lists 0 0 out o after
+KindAnswered cards k walls calls out o after = Answered card_distance (start k 64) (map (level_call cards_written.card_of (mix_passes (map cards_written.wall_of walls))) calls) blank_lists 0 0 out o after
 
 -- A level's calls are answered on a roadmap over a fresh index of capacity 64, by lines in the output. Neither degree nor
 -- bucket has a part in it.
