@@ -4,7 +4,8 @@ use card::Card;
 use hits::Hit;
 use index::index::Index;
 use std::alloc::Global;
-use std::test::*;
+use std::process::Abort;
+use std::test::Fail;
 
 const MARK: Hit = Hit {
     number: 60000,
@@ -12,16 +13,17 @@ const MARK: Hit = Hit {
 };
 
 // The two lists hold the same, also behind what was written.
-fn same_hits(one: &[Hit], other: &[Hit]) -> Result<(), Fail> {
-    assert!(one.len() == other.len());
+fn same_hits(rt: &impl Abort, one: &[Hit], other: &[Hit]) -> Result<(), Fail> {
+    assert!(rt; one.len() == other.len());
     for i in 0..one.len() {
-        assert_eq!(one[i], other[i]);
+        assert_eq!(rt; one[i], other[i]);
     }
     Ok(())
 }
 
 // One call on both.
 fn call_both<I: Index<Element = Card>, J: Index<Element = Card>>(
+    rt: &impl Abort,
     one: &mut I,
     other: &mut J,
     call: Call,
@@ -32,18 +34,22 @@ fn call_both<I: Index<Element = Card>, J: Index<Element = Card>>(
     ensures { (I.Index.sound one.new) × (J.Index.sound other.new) }
 {
     match call {
-        Call::Add(e) => assert_eq!(one.add(e), other.add(e)),
-        Call::Drop(n) => assert_eq!(one.drop(n), other.drop(n)),
-        Call::Element(n) => assert_eq!(one.element(n), other.element(n)),
-        Call::Near(q, k) => assert_eq!(one.near(&q, k, list), other.near(&q, k, other_list)),
-        Call::Within(q, r) => assert_eq!(one.within(&q, r, list), other.within(&q, r, other_list)),
+        Call::Add(e) => assert_eq!(rt; one.add(e), other.add(e)),
+        Call::Drop(n) => assert_eq!(rt; one.drop(n), other.drop(n)),
+        Call::Element(n) => assert_eq!(rt; one.element(n), other.element(n)),
+        Call::Near(q, k) => assert_eq!(rt; one.near(&q, k, list), other.near(&q, k, other_list)),
+        Call::Within(q, r) => assert_eq!(rt;
+            one.within(&q, r, list),
+            other.within(&q, r, other_list)
+        ),
     }
-    assert_eq!(one.tally(), other.tally());
-    same_hits(list, other_list)
+    assert_eq!(rt; one.tally(), other.tally());
+    same_hits(rt, list, other_list)
 }
 
 // So many calls on both.
 pub fn run<I: Index<Element = Card>, J: Index<Element = Card>>(
+    rt: &impl Abort,
     heap: Global,
     one: &mut I,
     other: &mut J,
@@ -58,6 +64,7 @@ pub fn run<I: Index<Element = Card>, J: Index<Element = Card>>(
         let mut list = vec![in heap; MARK; turn as usize % 13]?;
         let mut other_list = vec![in heap; MARK; turn as usize % 13]?;
         call_both(
+            rt,
             one,
             other,
             call,

@@ -9,7 +9,8 @@ use index::refusal::Refusal;
 use scan::rows::Row;
 use scan::scan::Scan;
 use std::mem::size_of;
-use std::test::*;
+use std::process::Abort;
+use std::test::Fail;
 
 const SETTINGS: [(u32, u32); 6] = [(2, 2), (2, 5), (3, 3), (4, 9), (8, 8), (8, 32)];
 
@@ -48,7 +49,7 @@ fn sizes_in_bytes(rt: HostRuntime) -> Result<(), Fail> {
 
 // A scan and a tree over so many rows each, by one script.
 fn beside(
-    rt: &HostRuntime,
+    rt: &(impl Abort + AllocGlobal),
     places: usize,
     settings: (u32, u32),
     script: Script,
@@ -60,12 +61,12 @@ fn beside(
     let mut tree_rows = vec![in heap; TreeRow::vacant(blank); places]?;
     let mut scan = Scan::new(rows.as_mut_slice());
     let mut tree = Gnat::new(tree_rows.as_mut_slice(), choose(settings.0, settings.1)?);
-    run(heap, &mut scan, &mut tree, script, turns)
+    run(rt, heap, &mut scan, &mut tree, script, turns)
 }
 
 // At every setting, by three scripts each.
 fn beside_all(
-    rt: &HostRuntime,
+    rt: &(impl Abort + AllocGlobal),
     places: usize,
     style: Style,
     values: u32,

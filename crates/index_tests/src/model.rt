@@ -75,7 +75,7 @@ impl Model {
                 all.push((distance, sample.0))?;
             }
         }
-        all.sort();
+        all.sort()?;
         Ok(all)
     }
 }

@@ -107,7 +107,7 @@ impl Model {
                 all.push((distance, *number))?;
             }
         }
-        all.sort();
+        all.sort()?;
         let mut hits = Vec::new(self.heap);
         for (distance, number) in all.iter() {
             hits.push(Hit {
