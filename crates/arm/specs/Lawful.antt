@@ -1,5 +1,5 @@
 -- The distance of two poses is lawful. Assumes nothing.
-use Rattle.std.specs.Prelude.{◌≡◌, ℕ, ◌+◌, ◌*◌, ◌≤◌, get_or}
+use Rattle.std.specs.Prelude.{◌≡◌, ℕ, ◌+◌, ◌≤◌}
 use Rattle.std.proofs.Common.{arith}
 use Rattle.metric.specs.Laws.{MetricLaws}
 use Rattle.arm.specs.declared.Arm.{Arm}

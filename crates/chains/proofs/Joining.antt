@@ -1,6 +1,6 @@
 -- Chains put together and turned round; the island and the chosen chain are unique. Assumes nothing.
-use Rattle.std.proofs.Common.{◌≡◌, ℕ, ◌+◌, ◌<◌, ◌≤◌, ◌⊎◌, List, [], ◌∷◌, length, sym, refl, ap, ◌∙◌, subst, inl, inr, arith}
-use Rattle.std.specs.List.{AllByRecursion as All}
+use Rattle.std.proofs.Common.{◌≡◌, ℕ, ◌+◌, ◌<◌, ◌⊎◌, List, [], ◌∷◌, length, sym, refl, subst, inl, inr, arith}
+use Rattle.std.specs.List.{AllByRecursion}
 use Rattle.chains.specs.Chains.{Starts, Ends, NotAfter, Preferred, Chain, Joins, Joined, Island, Route}
 use Rattle.chains.proofs.Settling.{longer}
 
@@ -33,16 +33,16 @@ module _ (S : ℕ → Type 0) (T : ℕ → ℕ → ℕ → Type 0) where
   route_one a b ns os l t x y = preferred_both l t ns os (x.best os t y.joins) (y.best ns l x.joins)
 
   module _ (ends : (x y d : ℕ) → T x y d → S x × S y) where
-    pub chain_all : (ns : List ℕ) (l : ℕ) → Chain S T ns l → All S ns
+    pub chain_all : (ns : List ℕ) (l : ℕ) → Chain S T ns l → AllByRecursion S ns
     chain_all [] l c = tt
     chain_all (n ∷ []) l c = (c.0, tt)
     chain_all (n ∷ (m ∷ rest)) l c = ((ends n m c.0 c.2).0, chain_all (m ∷ rest) c.1 c.3)
 
-    start_in : (a : ℕ) (ns : List ℕ) → Starts a ns → All S ns → S a
+    start_in : (a : ℕ) (ns : List ℕ) → Starts a ns → AllByRecursion S ns → S a
     start_in a [] s x = absurd s
     start_in a (n ∷ ns) s x = subst S (sym s) x.0
 
-    end_in : (b : ℕ) (ns : List ℕ) → Ends b ns → All S ns → S b
+    end_in : (b : ℕ) (ns : List ℕ) → Ends b ns → AllByRecursion S ns → S b
     end_in b [] s x = absurd s
     end_in b (n ∷ []) s x = subst S (sym s) x.0
     end_in b (n ∷ (m ∷ rest)) s x = end_in b (m ∷ rest) s x.1

@@ -1,6 +1,6 @@
 -- Chains under other names. Assumes nothing.
-use Rattle.std.proofs.Common.{◌≡◌, ℕ, ◌+◌, ◌<◌, ◌≤◌, ◌⊎◌, List, [], ◌∷◌, map, length, sym, refl, ap, ◌∙◌, subst, inl, inr, arith}
-use Rattle.std.specs.List.{AllByRecursion as All}
+use Rattle.std.proofs.Common.{◌≡◌, ℕ, ◌<◌, ◌≤◌, ◌⊎◌, List, [], ◌∷◌, map, length, sym, refl, ap, ◌∙◌, subst, inl, inr, arith}
+use Rattle.std.specs.List.{AllByRecursion}
 use Rattle.std.proofs.lemmas.List.{length-map, map-id}
 use Rattle.std.proofs.lemmas.Bool.{cases_order}
 use Rattle.chains.specs.Chains.{Starts, Ends, NotAfter, Preferred, Chain, Joins, Joined, Island, Route}
@@ -39,7 +39,7 @@ pub record Renames (S : ℕ → Type 0) (T : ℕ → ℕ → ℕ → Type 0) (S'
   pub ends' : (x y d : ℕ) → T' x y d → S' x × S' y
 
 module _ (S : ℕ → Type 0) (T : ℕ → ℕ → ℕ → Type 0) (S' : ℕ → Type 0) (T' : ℕ → ℕ → ℕ → Type 0) (m : Renames S T S' T') where
-  not_after_moved : (ns os : List ℕ) → All S ns → All S' os → NotAfter ns (map m.fro os) → NotAfter (map m.to ns) os
+  not_after_moved : (ns os : List ℕ) → AllByRecursion S ns → AllByRecursion S' os → NotAfter ns (map m.fro os) → NotAfter (map m.to ns) os
   not_after_moved [] os x y a = tt
   not_after_moved (n ∷ ns) [] x y a = a
   not_after_moved (n ∷ ns) (o ∷ os) x y (inl a) = inl (omega (arith, m.rises n (m.fro o) x.0 (m.stands' o y.0) a, m.back o y.0))
@@ -79,7 +79,7 @@ module _ (S : ℕ → Type 0) (T : ℕ → ℕ → ℕ → Type 0) (S' : ℕ →
           go sj e low (inr (inl z)) = omega (arith, m.rises i (m.fro j) si (m.stands' j sj) z)
           go sj e low (inr (inr z)) = absurd (omega arith)
 
-  preferred_moved : (l t : ℕ) (ns os : List ℕ) → All S ns → All S' os → Preferred l ns t (map m.fro os) → Preferred l (map m.to ns) t os
+  preferred_moved : (l t : ℕ) (ns os : List ℕ) → AllByRecursion S ns → AllByRecursion S' os → Preferred l ns t (map m.fro os) → Preferred l (map m.to ns) t os
   preferred_moved l t ns os x y (inl p) = inl p
   preferred_moved l t ns os x y (inr p) = inr (p.0, go p.1)
     where

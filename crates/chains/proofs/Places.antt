@@ -1,6 +1,6 @@
 -- Places of rising numbers: the same chains by place and by number. Assumes nothing.
-use Rattle.std.proofs.Common.{◌≡◌, ℕ, zero, suc, ◌+◌, ◌<◌, ◌≤◌, Bool, true, false, cond, eqb, ◌⊎◌, List, [], ◌∷◌, map, length, get_or, sym, refl, ap, ◌∙◌, subst, inl, inr, ⊎_elim, arith, eq-eqb, ne_eqb}
-use Rattle.std.specs.List.{AllByRecursion as All}
+use Rattle.std.proofs.Common.{◌≡◌, ℕ, zero, suc, ◌<◌, cond, eqb, ◌⊎◌, List, [], ◌∷◌, map, length, get_or, sym, refl, ap, ◌∙◌, subst, inl, inr, ⊎_elim, arith, eq-eqb, ne_eqb}
+use Rattle.std.specs.List.{AllByRecursion}
 use Rattle.std.proofs.lemmas.Bool.{cases_eq}
 use Rattle.hits.specs.Samples.{Among}
 use Rattle.chains.specs.declared.Edge.{Edge}
@@ -66,7 +66,7 @@ among_unmap f (x ∷ xs) y (inl e) = (x, inl refl, e)
 among_unmap f (x ∷ xs) y (inr a) = let r = among_unmap f xs y a in (r.0, inr r.1, r.2)
 
 -- the edges by place, and the same by number
-module _ (numbers : List ℕ) (rises : Rises 0 numbers) (edges : List Edge) (all : All (Inside (length numbers)) edges) (S : ℕ → Type 0) (stands_in : (n : ℕ) → S n → Among n numbers) (stands_out : (n : ℕ) → Among n numbers → S n) where
+module _ (numbers : List ℕ) (rises : Rises 0 numbers) (edges : List Edge) (all : AllByRecursion (Inside (length numbers)) edges) (S : ℕ → Type 0) (stands_in : (n : ℕ) → S n → Among n numbers) (stands_out : (n : ℕ) → Among n numbers → S n) where
   pub one_way : (x y d : ℕ) → Among (edge x y d) (map (renamed (number_at numbers)) edges) → Among (edge (position x numbers) (position y numbers) d) edges
   one_way x y d a =
       let r = among_unmap (renamed (number_at numbers)) edges (edge x y d) a in

@@ -1,16 +1,16 @@
 -- Settled costs are the least: what they say of the chains to the goal. Assumes nothing.
 use Rattle.std.proofs.Common.{◌≡◌, ℕ, zero, suc, ◌+◌, ◌*◌, ◌<◌, ◌≤◌, Bool, true, false, cond, ltb, ◌⊎◌, List, [], ◌∷◌, length, get_or, sym, refl, ap, ◌∙◌, subst, inl, inr, arith, le-ltb, lt-ltb}
-use Rattle.std.specs.List.{AllByRecursion as All}
+use Rattle.std.specs.List.{AllByRecursion}
 use Rattle.std.proofs.lemmas.List.{get_or_past}
-use Rattle.std.proofs.lemmas.Bool.{cases_lt, cases_order, ltb-true, ltb-false}
+use Rattle.std.proofs.lemmas.Bool.{cases_lt, cases_order}
 use Rattle.hits.specs.Samples.{Among}
 use Rattle.chains.specs.declared.Edge.{Edge}
-use Rattle.chains.specs.Chains.{Starts, Ends, NotAfter, Preferred, Chain, Joins, Joined, Route}
+use Rattle.chains.specs.Chains.{Starts, NotAfter, Preferred, Joins, Route}
 use Rattle.chains.specs.Edges.{edge, Linked, Inside}
-use Rattle.chains.specs.Costs.{none, step_cost, cost_at, Way, stays, goes, SettledAt, Attained, Settled, Onward}
+use Rattle.chains.specs.Costs.{none, step_cost, cost_at, Way, stays, goes, SettledAt, Settled, Onward}
 
 -- what holds of all holds of one among them
-pub all_among : {X : Type 0} (P : X → Type 0) (xs : List X) (x : X) → All P xs → Among x xs → P x
+pub all_among : {X : Type 0} (P : X → Type 0) (xs : List X) (x : X) → AllByRecursion P xs → Among x xs → P x
 all_among P [] x a m = absurd m
 all_among P (y ∷ ys) x a (inl e) = subst P (sym e) a.0
 all_among P (y ∷ ys) x a (inr m) = all_among P ys x a.1 m
@@ -78,7 +78,7 @@ longer Stands Step i j d b (n ∷ ns) l s x =
 abbrev pub Placed : List ℕ → ℕ → Type 0
 Placed costs i = i < length costs
 
-module _ (edges : List Edge) (goal : ℕ) (costs : List ℕ) (few : length costs ≤ 1024) (all : All (Inside (length costs)) edges) (settled : Settled edges goal costs) where
+module _ (edges : List Edge) (goal : ℕ) (costs : List ℕ) (few : length costs ≤ 1024) (all : AllByRecursion (Inside (length costs)) edges) (settled : Settled edges goal costs) where
   -- both ends of a link are inside, and it is not long
   linked_inside : (i j d : ℕ) → Linked edges i j d → (i < length costs) × (j < length costs) × (d ≤ 1048576)
   linked_inside i j d (inl m) = let p = all_among (Inside (length costs)) edges (edge i j d) all m in (p.0, p.1, p.2)

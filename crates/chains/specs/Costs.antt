@@ -1,9 +1,9 @@
 -- Costs of chains to one goal. A step costs its length times 65,536 and one more: so the cost of a chain of few steps
 -- orders chains by length, and equally long ones by their count.
-use Rattle.std.specs.Prelude.{◌≡◌, ℕ, ◌+◌, ◌*◌, ◌<◌, ◌≤◌, List, [], ◌∷◌, length, slice_index_or}
-use Rattle.std.specs.List.{AllByRecursion as All}
+use Rattle.std.specs.Prelude.{◌≡◌, ℕ, ◌+◌, ◌*◌, ◌<◌, ◌≤◌, List, length, slice_index_or}
+use Rattle.std.specs.List.{AllByRecursion}
 use Rattle.chains.specs.declared.Edge.{Edge}
-use Rattle.chains.specs.Edges.{Linked, Inside}
+use Rattle.chains.specs.Edges.{Linked}
 
 -- the cost of what no chain reaches, above that of any chain
 abbrev pub none : ℕ
@@ -34,7 +34,7 @@ pub record Attained (edges : List Edge) (goal : ℕ) (costs : List ℕ) : Type 0
 -- and none can be lowered
 pub record Settled (edges : List Edge) (goal : ℕ) (costs : List ℕ) : Type 0 where
   pub attained : Attained edges goal costs
-  pub settled : All (SettledAt costs) edges
+  pub settled : AllByRecursion (SettledAt costs) edges
 
 -- of all next ones on a chain of least cost, r is the smallest
 pub record Onward (edges : List Edge) (costs : List ℕ) (i r : ℕ) : Type 0 where

@@ -1,5 +1,5 @@
 -- Which numbers a list of edges joins.
-use Rattle.std.specs.Prelude.{◌≡◌, ℕ, ◌<◌, ◌≤◌, ◌⊎◌, List, [], ◌∷◌, map}
+use Rattle.std.specs.Prelude.{ℕ, ◌<◌, ◌≤◌, ◌⊎◌, List, [], ◌∷◌}
 use Rattle.hits.specs.Samples.{Among}
 use Rattle.chains.specs.declared.Edge.{Edge}
 

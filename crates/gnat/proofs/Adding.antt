@@ -1,33 +1,33 @@
 -- The state of a GNAT after one more sample is filed. Assumes nothing.
 use Rattle.std.proofs.Common.{◌≡◌, ℕ, suc, ◌+◌, ◌<◌, ◌≤◌, min, false, List, [], ◌∷◌, ◌++◌, length, get_or, take, drop, Some, sym, refl, ap, ◌∙◌, subst, arith, take-suc}
-use Rattle.std.specs.List.{slice_get, AllByRecursion as All}
+use Rattle.std.specs.List.{slice_get}
 use Rattle.std.proofs.ByRecursion.{All-get_or, All-weaker, All-take, All-push}
-use Rattle.std.proofs.lemmas.List.{length-map, length-take-le, get_or-take, take-take, take_at, take-append-drop, append-nil, append_assoc, drop-drop, length-append, length-take}
+use Rattle.std.proofs.lemmas.List.{length-map, length-take-le, get_or-take, take-take, take_at, take-append-drop, append-nil, append_assoc, length-append}
 use Rattle.hits.specs.Samples.{Sample, Rising}
-use Rattle.index.specs.Meaning.{Meaning, added}
+use Rattle.index.specs.Meaning.{added}
 use Rattle.index.proofs.Standing.{rising_push}
 use Rattle.gnat_theory.specs.Tree.{Tree, members}
 use Rattle.gnat_theory.specs.Splitting.{grown}
 use Rattle.gnat_theory.specs.Keeping.{Files}
 use Rattle.gnat_theory.specs.Shuffles.{Shuffle}
 use Rattle.gnat_theory.specs.Shuffles.Shuffle.{after, in_turn}
-use Rattle.gnat_theory.proofs.Shuffling.{same_order, shuffle_back, shuffle_behind, shuffle_front, all_shuffle, length_shuffle}
+use Rattle.gnat_theory.proofs.Shuffling.{shuffle_back, shuffle_front, all_shuffle, length_shuffle}
 use Rattle.gnat_theory.proofs.Pruning.{apart_shuffle}
 use Rattle.gnat_theory.proofs.Theorems.{keeps_tree, rows_counted}
 use Rattle.gnat_rows.specs.declared.Node.{Node}
 use Rattle.gnat_rows.specs.declared.Row.{Row}
-use Rattle.gnat_rows.specs.Rows.{with_sample, changed}
+use Rattle.gnat_rows.specs.Rows.{with_sample}
 use Rattle.gnat_rows.specs.Lying.{Absent, Distinct, OnlyIn}
 use Rattle.gnat_rows.specs.Shows.{Shows, sample_in}
 use Rattle.gnat_rows.specs.Trees.{sample_on, samples_at, tree_of, height}
-use Rattle.gnat_rows.proofs.Apart.{distinct_left, distinct_shuffle, distinct_across, all_left}
+use Rattle.gnat_rows.proofs.Apart.{distinct_left, distinct_shuffle, distinct_across}
 use Rattle.gnat_rows.proofs.Changes.{length_changed, nth_changed, nth_unchanged}
 use Rattle.gnat_rows.proofs.Showing.{Same, frame, shows_length}
 use Rattle.gnat_rows.proofs.Trees.{shown_tree, height_bound}
 use Rattle.gnat_order.specs.Order.{Within, places, placed, swapped}
 use Rattle.gnat_order.proofs.Places.{places_placed, length_placed}
 use Rattle.gnat_order.proofs.Numbers.{there}
-use Rattle.gnat_order.proofs.Moves.{Enlisted, enlisted, shuffled_enlisted, take_swapped, length_swapped}
+use Rattle.gnat_order.proofs.Moves.{enlisted, shuffled_enlisted, take_swapped, length_swapped}
 use Rattle.gnat_order.proofs.Framing.{shows_placed, samples_placed, samples_only, places_only, samples_append, samples_other, places_kept}
 use Rattle.gnat.specs.declared.gnat.Gnat.{Gnat}
 use Rattle.gnat.specs.Gnats.{capacity_of, listed, standing_in, gnat_meaning, gnat_tree, GnatSound}

@@ -1,9 +1,8 @@
 -- What the calls of a GNAT need of its state. Assumes the laws of the distance.
-use Rattle.std.proofs.Common.{◌≡◌, ℕ, ◌+◌, ◌<◌, ◌≤◌, min, true, false, cond, eqb, List, [], ◌∷◌, ◌++◌, length, get_or, take, drop, Some, sym, refl, ap, ◌∙◌, subst, inl, inr, arith, length-take}
+use Rattle.std.proofs.Common.{◌≡◌, ℕ, ◌+◌, ◌<◌, ◌≤◌, eqb, List, [], ◌∷◌, ◌++◌, length, get_or, take, drop, Some, sym, ap, ◌∙◌, subst, inl, inr, arith, length-take}
 use Rattle.std.specs.List.{slice_get}
 use Rattle.std.proofs.lemmas.List.{length-take-le, append_assoc, drop-append-le, take-append-drop}
 use Rattle.std.proofs.lemmas.Bool.{eq-eqb, ne_eqb, cond-true, cond-false}
-use Rattle.metric.specs.Laws.{MetricLaws}
 use Rattle.hits.specs.declared.Hit.{Hit}
 use Rattle.hits.specs.Lists.{over}
 use Rattle.hits.specs.Samples.{Sample, Among, Ranked, hits}
@@ -23,7 +22,7 @@ use Rattle.gnat_rows.proofs.Trees.{shown_tree}
 use Rattle.gnat_order.specs.Order.{places}
 use Rattle.gnat_search.specs.Nodes.{Searchable}
 use Rattle.gnat.specs.declared.gnat.Gnat.{Gnat}
-use Rattle.gnat.specs.Gnats.{capacity_of, listed, standing_in, gnat_meaning, gnat_tree, GnatSound, TreeRight}
+use Rattle.gnat.specs.Gnats.{capacity_of, standing_in, gnat_meaning, gnat_tree, GnatSound, TreeRight}
 use Rattle.gnat.specs.Lawful.{standing_count}
 use Rattle.gnat.proofs.Adding.{shallow}
 use Rattle.gnat.proofs.Taking.{it_is_listed, length_places}

@@ -1,10 +1,10 @@
 -- The state of a GNAT after a sample is dropped. Assumes nothing.
 use Rattle.std.proofs.Common.{◌≡◌, ℕ, zero, suc, ◌+◌, ◌-◌, ◌<◌, ◌≤◌, min, Bool, true, false, cond, eqb, List, [], ◌∷◌, ◌++◌, length, get_or, take, drop, Some, sym, refl, ap, ◌∙◌, subst, arith, eq-eqb, ne_eqb}
-use Rattle.std.specs.List.{slice_get, AllByRecursion as All}
-use Rattle.hits.specs.Samples.{Sample, Rising}
+use Rattle.std.specs.List.{slice_get}
+use Rattle.hits.specs.Samples.{Rising}
 use Rattle.std.proofs.ByRecursion.{All-append, All-take, All-drop, All-weaker}
 use Rattle.std.proofs.lemmas.List.{length-map, length-take, length-take-le, get_or-take}
-use Rattle.index.specs.Meaning.{Meaning, without, dropped}
+use Rattle.index.specs.Meaning.{without, dropped}
 use Rattle.index.proofs.Standing.{without_below, rising_wider, rising_without}
 use Rattle.gnat_theory.specs.Tree.{members}
 use Rattle.gnat_theory.specs.Dropping.{shrunk}
@@ -28,7 +28,7 @@ use Rattle.gnat_rows.specs.Lying.{Absent, Distinct, OnlyIn}
 use Rattle.gnat_rows.specs.Shows.{sample_in, Shows}
 use Rattle.gnat_rows.specs.Trees.{sample_on, samples_at, tree_of}
 use Rattle.gnat_order.specs.Order.{Within, places, placed}
-use Rattle.gnat_order.proofs.Numbers.{there, numbers, number_listed, rising_order, length_samples_at}
+use Rattle.gnat_order.proofs.Numbers.{there, number_listed, rising_order, length_samples_at}
 
 -- the others
 abbrev pub minus : ℕ → List ℕ → List ℕ

@@ -1,10 +1,9 @@
 -- The state of a GNAT whose standing samples are filed anew. Assumes nothing.
-use Rattle.std.proofs.Common.{◌≡◌, ℕ, zero, suc, ◌+◌, ◌<◌, ◌≤◌, min, List, [], ◌∷◌, ◌++◌, length, get_or, take, drop, replicate, Some, sym, refl, ap, ◌∙◌, subst, arith, take-suc}
-use Rattle.std.specs.List.{slice_get, AllByRecursion as All}
+use Rattle.std.proofs.Common.{◌≡◌, ℕ, suc, ◌+◌, ◌<◌, ◌≤◌, min, List, [], ◌∷◌, ◌++◌, length, get_or, take, drop, replicate, Some, sym, refl, ap, ◌∙◌, subst, arith, take-suc}
+use Rattle.std.specs.List.{slice_get, AllByRecursion}
 use Rattle.std.proofs.ByRecursion.{All-take, All-get_or}
 use Rattle.std.proofs.lemmas.List.{append-nil, length-take, length-take-le, length-map, take_all, take-append-drop, take-take, get_or-take}
 use Rattle.hits.specs.Samples.{Sample, Rising}
-use Rattle.index.specs.Meaning.{Meaning}
 use Rattle.gnat_theory.specs.Tree.{Tree, Parts, members}
 use Rattle.gnat_theory.specs.Tree.Tree.{leaf, branch}
 use Rattle.gnat_theory.specs.Tree.Parts.{none, part}
@@ -20,7 +19,7 @@ use Rattle.gnat_theory.proofs.Theorems.{keeps_tree}
 use Rattle.gnat_rows.specs.declared.Node.{Node}
 use Rattle.gnat_rows.specs.declared.Row.{Row}
 use Rattle.gnat_rows.specs.Rows.{empty}
-use Rattle.gnat_rows.specs.Lying.{Absent, Distinct, OnlyIn}
+use Rattle.gnat_rows.specs.Lying.{Distinct, OnlyIn}
 use Rattle.gnat_rows.specs.Shows.{Shows, sample_in}
 use Rattle.gnat_rows.specs.Trees.{sample_on, samples_at, tree_of, height, height_parts}
 use Rattle.gnat_rows.proofs.Apart.{distinct_left, distinct_shuffle}
@@ -28,13 +27,13 @@ use Rattle.gnat_rows.proofs.Only.{only_none, only_wider, only_then}
 use Rattle.gnat_rows.proofs.Trees.{shown_tree}
 use Rattle.gnat_order.specs.Order.{Within, places}
 use Rattle.gnat_order.proofs.Places.{place_of}
-use Rattle.gnat_order.proofs.Numbers.{there, length_samples_at}
+use Rattle.gnat_order.proofs.Numbers.{there}
 use Rattle.gnat_order.proofs.Framing.{samples_only, places_only, samples_append}
 use Rattle.gnat_filing.specs.Filed.{Settings, Ready, FilesIn, depth, deepest}
 use Rattle.gnat.specs.declared.gnat.Gnat.{Gnat}
-use Rattle.gnat.specs.Gnats.{capacity_of, listed, standing_in, gnat_meaning, gnat_tree, GnatSound}
+use Rattle.gnat.specs.Gnats.{capacity_of, listed, standing_in, gnat_meaning, GnatSound}
 use Rattle.gnat.specs.Refiling.{Refiled}
-use Rattle.gnat.specs.Lawful.{in_rows, listed_within, standing_count}
+use Rattle.gnat.specs.Lawful.{in_rows, listed_within}
 use Rattle.gnat.proofs.Adding.{shallow}
 
 -- filing counts the branches as the rows do
@@ -146,7 +145,7 @@ module _ {E : Type 0} (dist : E → E → ℕ) (degree bucket : ℕ) (rows : Lis
       let l = subst (λ i. FilesIn dist degree bucket 1025 new later root after_it i) same files _ f.lies r.0 next_ready r.1 in
       refiled_more dist degree bucket rows order within j (omega (arith, all_listed)) new later root after_it f r.0 r.1 l.lies l.shows l.same_rows l.only as_long
 
-rising_at_most : {E : Type 0} (most low high : ℕ) (xs : List (Sample E)) → high ≤ most → Rising low high xs → All (λ x. x.number ≤ most) xs
+rising_at_most : {E : Type 0} (most low high : ℕ) (xs : List (Sample E)) → high ≤ most → Rising low high xs → AllByRecursion (λ x. x.number ≤ most) xs
 rising_at_most most low high [] l r = tt
 rising_at_most most low high (x ∷ xs) l r = (omega (arith, r.1), rising_at_most most x.number high xs l r.2)
 

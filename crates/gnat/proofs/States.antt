@@ -1,8 +1,7 @@
 -- The states of a GNAT. Assumes nothing.
-use Rattle.std.proofs.Common.{◌≡◌, ℕ, ◌+◌, ◌<◌, ◌≤◌, min, List, [], ◌∷◌, ◌++◌, length, take, replicate, sym, refl, ap, ◌∙◌, subst, arith}
+use Rattle.std.proofs.Common.{◌≡◌, ℕ, ◌+◌, ◌≤◌, min, List, [], length, take, replicate, sym, refl, ap, ◌∙◌, subst, arith}
 use Rattle.std.proofs.lemmas.List.{length-map}
-use Rattle.index.specs.Meaning.{Meaning, fresh}
-use Rattle.gnat_theory.specs.Tree.{Tree}
+use Rattle.index.specs.Meaning.{fresh}
 use Rattle.gnat_theory.specs.Tree.Tree.{leaf}
 use Rattle.gnat_theory.specs.Shuffles.{Shuffle}
 use Rattle.gnat_theory.specs.Shuffles.Shuffle.{nothing}
@@ -12,11 +11,11 @@ use Rattle.gnat_theory.proofs.Theorems.{keeps_tree}
 use Rattle.gnat_rows.specs.declared.Row.{Row}
 use Rattle.gnat_rows.specs.Rows.{empty}
 use Rattle.gnat_rows.specs.Lying.{Distinct}
-use Rattle.gnat_rows.specs.Trees.{samples_at, tree_of}
+use Rattle.gnat_rows.specs.Trees.{samples_at}
 use Rattle.gnat_order.specs.Order.{Within, places, placed, counted}
 use Rattle.gnat_order.proofs.Places.{places_placed, length_placed, length_counted, counted_within, counted_distinct}
 use Rattle.gnat.specs.declared.gnat.Gnat.{Gnat}
-use Rattle.gnat.specs.Gnats.{capacity_of, standing_in, gnat_meaning, GnatSound}
+use Rattle.gnat.specs.Gnats.{capacity_of, standing_in, GnatSound}
 
 -- a new index: its rows are listed in their own order
 module _ {E : Type 0} (dist : E → E → ℕ) (rows new : List (Row E)) (count : ℕ) (is_count : count ≡ min (length rows) 1024) (lists : new ≡ placed (counted count (places rows)) rows) where

@@ -1,5 +1,5 @@
 -- A GNAT out of which a sample is taken. Assumes nothing.
-use Rattle.std.proofs.Common.{◌≡◌, ℕ, zero, suc, ◌+◌, ◌-◌, ◌<◌, ◌≤◌, min, Bool, true, false, ◌⊎◌, List, [], ◌∷◌, ◌++◌, length, get_or, take, drop, Some, None, Option, sym, refl, ap, ◌∙◌, subst, inl, inr, arith}
+use Rattle.std.proofs.Common.{◌≡◌, ℕ, zero, suc, ◌+◌, ◌-◌, ◌<◌, ◌≤◌, min, Bool, true, false, List, [], ◌∷◌, ◌++◌, length, get_or, take, drop, Some, None, Option, sym, refl, ap, ◌∙◌, subst, inl, inr, arith}
 use Rattle.std.specs.List.{slice_get}
 use Rattle.std.proofs.ByRecursion.{All-get_or}
 use Rattle.std.proofs.lemmas.List.{length-map, length-take, length-take-le, get_or-take}
@@ -13,11 +13,11 @@ use Rattle.gnat_rows.specs.declared.Row.{Row}
 use Rattle.gnat_rows.specs.Shows.{sample_in, Shows}
 use Rattle.gnat_rows.specs.Lying.{OnlyIn}
 use Rattle.gnat_rows.specs.Trees.{sample_on, samples_at, tree_of}
-use Rattle.gnat_order.specs.Order.{Listed, places, placed, swapped, behind, at_place}
+use Rattle.gnat_order.specs.Order.{places, placed, at_place}
 use Rattle.gnat_order.proofs.Framing.{places_only}
-use Rattle.gnat_filing.specs.Dropping.{Droppable, Drops, DropsFrom}
+use Rattle.gnat_filing.specs.Dropping.{Droppable, Drops}
 use Rattle.gnat.specs.declared.gnat.Gnat.{Gnat}
-use Rattle.gnat.specs.Gnats.{capacity_of, listed, standing_in, gnat_meaning, gnat_tree, GnatSound}
+use Rattle.gnat.specs.Gnats.{capacity_of, listed, standing_in, gnat_meaning, GnatSound}
 use Rattle.gnat.specs.Changes.{TakenOut}
 use Rattle.gnat.specs.Unlisting.{unlisted, marked_then}
 use Rattle.gnat.specs.Lawful.{in_rows, listed_within}

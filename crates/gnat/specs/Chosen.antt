@@ -1,5 +1,5 @@
 -- What choosing settings tells.
-use Rattle.std.specs.Prelude.{ℕ, Bool, cond, ◌||◌, List, [], ◌∷◌, Ok, Err, Result, nat_lt}
+use Rattle.std.specs.Prelude.{ℕ, Bool, cond, ◌||◌, [], ◌∷◌, Ok, Err, Result, nat_lt}
 use Rattle.index.specs.declared.refusal.Refusal.{Refusal}
 use Rattle.index.specs.Outcomes.{Outcome, gives, refuses, number_of, figures_of}
 use Rattle.gnat.specs.declared.settings.Settings.{Settings}

@@ -1,6 +1,6 @@
 -- What a GNAT means, which tree it holds, and which of its states are sound.
-use Rattle.std.specs.Prelude.{ℕ, ◌+◌, ◌≤◌, min, List, [], length, take}
-use Rattle.std.specs.List.{AllByRecursion as All}
+use Rattle.std.specs.Prelude.{ℕ, ◌+◌, ◌≤◌, min, List, length, take}
+use Rattle.std.specs.List.{AllByRecursion}
 use Rattle.hits.specs.Samples.{Sample, Rising}
 use Rattle.index.specs.Meaning.{Meaning}
 use Rattle.gnat_theory.specs.Tree.{Tree, members}
@@ -51,7 +51,7 @@ module _ {E : Type 0} where
       pub files : Files dist g.degree g.bucket (standing_in g) tree
       -- its numbers, those of marked samples too, are apart, and none is to come
       pub numbers : Apart (members tree)
-      pub given : All (λ s. s.number ≤ g.last) (members tree)
+      pub given : AllByRecursion (λ s. s.number ≤ g.last) (members tree)
 
     -- Its tree is that of an index with its standing samples: just these stand in it, each once, every range holds the
     -- distances that it speaks of, every sample is under its nearest pivot, and no leaf is too large.

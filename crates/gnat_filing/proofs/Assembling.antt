@@ -1,5 +1,5 @@
 -- A leaf and one more row become the branch of their split. Assumes nothing.
-use Rattle.std.proofs.Common.{◌≡◌, ℕ, suc, ◌+◌, ◌-◌, ◌<◌, ◌≤◌, max, List, [], ◌∷◌, ◌++◌, length, get_or, take, sym, refl, ap, ◌∙◌, subst, arith}
+use Rattle.std.proofs.Common.{◌≡◌, ℕ, ◌+◌, ◌-◌, ◌<◌, ◌≤◌, max, List, [], ◌∷◌, ◌++◌, length, get_or, take, sym, refl, ap, ◌∙◌, subst, arith}
 use Rattle.std.proofs.ByRecursion.{All-get_or}
 use Rattle.std.proofs.lemmas.List.{get_or-take, length-take-le, length-map, take_all}
 use Rattle.hits.specs.Samples.{Sample}
@@ -15,13 +15,13 @@ use Rattle.gnat_rows.specs.declared.Branch.{Branch as BranchRecord}
 use Rattle.gnat_rows.specs.declared.Leaf.{Leaf as LeafRecord}
 use Rattle.gnat_rows.specs.declared.Node.TheVariants as node
 use Rattle.gnat_rows.specs.declared.Row.{Row}
-use Rattle.gnat_rows.specs.Shows.{held, HoldsSamples}
-use Rattle.gnat_rows.specs.Lying.{Absent, Distinct}
+use Rattle.gnat_rows.specs.Shows.{held}
+use Rattle.gnat_rows.specs.Lying.{Absent}
 use Rattle.gnat_rows.proofs.Apart.{all_right, distinct_shuffle}
 use Rattle.gnat_rows.proofs.Only.{only_wider, only_then, holds_kept}
 use Rattle.gnat_rows.proofs.Showing.{holds_within, holds_length}
 use Rattle.gnat_filing.specs.declared.choosing.Candidate.{Candidate}
-use Rattle.gnat_filing.specs.Choosing.{rows_of, Candidates, ListsCandidates, Chosen, ChoosesFirst}
+use Rattle.gnat_filing.specs.Choosing.{rows_of, ListsCandidates, Chosen, ChoosesFirst}
 use Rattle.gnat_filing.specs.Filed.{deepest, ReadyLeaf, LeavesTree}
 use Rattle.gnat_filing.specs.Filling.{Clears, Bare, Fillable}
 use Rattle.gnat_filing.proofs.Candidates.{cand_holds}

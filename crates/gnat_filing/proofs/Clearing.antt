@@ -1,21 +1,19 @@
 -- The rows of pivots cleared, and the ranges of a branch with its pivots alone. Assumes nothing.
-use Rattle.std.proofs.Common.{◌≡◌, ℕ, zero, suc, ◌+◌, ◌<◌, ◌≤◌, false, List, [], ◌∷◌, ◌++◌, length, get_or, take, replicate, Some, sym, refl, ap, ◌∙◌, subst, ⊎_elim, arith}
-use Rattle.std.specs.List.{slice_get, AllByRecursion as All}
+use Rattle.std.proofs.Common.{◌≡◌, ℕ, suc, ◌+◌, ◌<◌, ◌≤◌, false, List, [], ◌∷◌, length, get_or, take, replicate, sym, refl, ap, ◌∙◌, subst, ⊎_elim, arith}
+use Rattle.std.specs.List.{slice_get}
 use Rattle.std.proofs.lemmas.List.{take_more, get_or-take, length-take-le}
 use Rattle.std.proofs.lemmas.Bool.{cases_eq}
 use Rattle.hits.specs.Samples.{Sample}
-use Rattle.gnat_theory.specs.Tree.{Range, fresh_pivot}
-use Rattle.gnat_theory.specs.Splitting.{point, points, bare}
+use Rattle.gnat_theory.specs.Splitting.{points, bare}
 use Rattle.gnat_rows.specs.declared.Branch.{Branch}
-use Rattle.gnat_rows.specs.declared.Node.{Node}
 use Rattle.gnat_rows.specs.declared.Row.{Row}
 use Rattle.gnat_rows.specs.Rows.{HasRow, empty, with_node, with_marked}
-use Rattle.gnat_rows.specs.Shows.{sample_in, pivot_in, ranges, column, HoldsSamples, Shows, ShowsParts}
+use Rattle.gnat_rows.specs.Shows.{sample_in, ranges, column, HoldsSamples, ShowsParts}
 use Rattle.gnat_rows.specs.Lying.{Absent, OnlyIn}
 use Rattle.gnat_rows.proofs.Apart.{all_left, all_right}
 use Rattle.gnat_rows.proofs.Changes.{nth_there, nth_changed, nth_unchanged, same_row}
 use Rattle.gnat_rows.proofs.Only.{only_wider, only_then, only_node, only_marked}
-use Rattle.gnat_filing.specs.Filling.{Cleared, Clears, Pointed, Bare}
+use Rattle.gnat_filing.specs.Filling.{Cleared, Clears, Bare}
 
 module _ {E : Type 0} (rows rows₁ rows₂ : List (Row E)) (i : ℕ) (put : rows₁ ≡ with_node i empty rows) (mark : rows₂ ≡ with_marked i false rows₁) where
   emptied : Row E → Row E

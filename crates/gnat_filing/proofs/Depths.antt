@@ -1,5 +1,5 @@
 -- A tree is no deeper than it has pivots. Assumes nothing.
-use Rattle.std.proofs.Common.{ℕ, suc, ◌+◌, ◌≤◌, max, length, arith}
+use Rattle.std.proofs.Common.{ℕ, suc, ◌≤◌, length, arith}
 use Rattle.gnat_theory.specs.Tree.{Tree, Parts, pivots}
 use Rattle.gnat_theory.specs.Tree.Tree.{leaf, branch}
 use Rattle.gnat_theory.specs.Tree.Parts.{none, part}

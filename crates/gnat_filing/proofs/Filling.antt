@@ -1,26 +1,24 @@
 -- Filing below the branch of a split. Assumes nothing.
-use Rattle.std.proofs.Common.{◌≡◌, ℕ, zero, suc, ◌+◌, ◌-◌, ◌<◌, ◌≤◌, max, List, [], ◌∷◌, ◌++◌, length, get_or, take, drop, Some, sym, refl, ap, ◌∙◌, subst, arith, length-append}
-use Rattle.std.specs.List.{slice_get, AllByRecursion as All}
+use Rattle.std.proofs.Common.{◌≡◌, ℕ, zero, suc, ◌+◌, ◌<◌, ◌≤◌, max, List, [], ◌∷◌, ◌++◌, length, get_or, take, drop, Some, sym, refl, ap, ◌∙◌, subst, arith}
+use Rattle.std.specs.List.{slice_get}
 use Rattle.std.proofs.ByRecursion.{All-get_or}
-use Rattle.std.proofs.lemmas.List.{append_assoc, take_more, drop_more, take-append-drop, length-take-le, length-take}
+use Rattle.std.proofs.lemmas.List.{append_assoc, take_more, drop_more, take-append-drop, length-take}
 use Rattle.hits.specs.Samples.{Sample}
 use Rattle.gnat_theory.specs.Tree.{Tree, Parts, pivots}
 use Rattle.gnat_theory.specs.Tree.Tree.{leaf, branch}
 use Rattle.gnat_theory.specs.Tree.Parts.{none, part}
 use Rattle.gnat_theory.specs.Filing.{nearest, distances, filed, filed_under, filed_all}
-use Rattle.gnat_theory.specs.Shapes.{Branching, Leaves}
 use Rattle.gnat_theory.specs.Shuffles.{Shuffle}
 use Rattle.gnat_theory.specs.Shuffles.Shuffle.{after, in_turn}
 use Rattle.gnat_theory.proofs.Filed.{leaves_more, filed_all_branching}
-use Rattle.gnat_theory.proofs.Shuffling.{all_shuffle, same_order, shuffle_back, shuffle_front, shuffle_parts, shuffle_behind, shuffle_before}
+use Rattle.gnat_theory.proofs.Shuffling.{all_shuffle, same_order, shuffle_back, shuffle_front, shuffle_parts, shuffle_behind}
 use Rattle.gnat_theory.proofs.Splits.{leaf_filed_leaves}
 use Rattle.gnat_rows.specs.declared.Branch.{Branch as BranchRecord}
 use Rattle.gnat_rows.specs.declared.Leaf.{Leaf as LeafRecord}
 use Rattle.gnat_rows.specs.declared.Node.{Node}
 use Rattle.gnat_rows.specs.declared.Node.TheVariants as node
 use Rattle.gnat_rows.specs.declared.Row.{Row}
-use Rattle.gnat_rows.specs.Shows.{sample_in, held, HoldsSamples, Shows}
-use Rattle.gnat_rows.specs.Lying.{Absent, Distinct, OnlyIn}
+use Rattle.gnat_rows.specs.Shows.{sample_in, HoldsSamples, Shows}
 use Rattle.gnat_rows.proofs.Apart.{distinct_left, distinct_shuffle}
 use Rattle.gnat_rows.proofs.Only.{only_none, only_wider, only_then, holds_kept}
 use Rattle.gnat_rows.proofs.Showing.{holds_within, holds_length}

@@ -1,5 +1,5 @@
 -- What a leaf becomes with one more row. Assumes nothing.
-use Rattle.std.proofs.Common.{◌≡◌, ℕ, suc, ◌+◌, ◌<◌, ◌≤◌, leb, List, [], ◌∷◌, ◌++◌, length, Some, sym, refl, ap, ◌∙◌, subst, arith, length-append}
+use Rattle.std.proofs.Common.{◌≡◌, ℕ, ◌+◌, ◌<◌, ◌≤◌, leb, List, [], ◌∷◌, ◌++◌, length, Some, sym, refl, ap, ◌∙◌, subst, arith}
 use Rattle.std.specs.List.{slice_get}
 use Rattle.std.proofs.lemmas.List.{append-nil, length-take-le, length_push}
 use Rattle.std.proofs.lemmas.Bool.{le-leb, lt-leb, cond-true, cond-false}
@@ -14,7 +14,7 @@ use Rattle.gnat_rows.specs.declared.Leaf.{Leaf as LeafRecord}
 use Rattle.gnat_rows.specs.declared.Node.{Node}
 use Rattle.gnat_rows.specs.declared.Node.TheVariants as node
 use Rattle.gnat_rows.specs.declared.Row.{Row}
-use Rattle.gnat_rows.specs.Shows.{sample_in, held, HoldsSamples, Shows}
+use Rattle.gnat_rows.specs.Shows.{sample_in, held, HoldsSamples}
 use Rattle.gnat_rows.specs.Lying.{Distinct}
 use Rattle.gnat_rows.proofs.Showing.{shows_leaf, holds_length, holds_append}
 use Rattle.gnat_rows.proofs.Only.{only_none}

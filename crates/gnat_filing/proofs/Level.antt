@@ -1,6 +1,6 @@
 -- Filing at one branch: the child under the nearest pivot is filed into, and put back. Assumes nothing.
-use Rattle.std.proofs.Common.{◌≡◌, ℕ, zero, suc, ◌+◌, ◌-◌, ◌<◌, ◌≤◌, max, List, [], ◌∷◌, ◌++◌, length, get_or, take, Some, sym, refl, ap, ◌∙◌, subst, arith}
-use Rattle.std.specs.List.{slice_get, AllByRecursion as All}
+use Rattle.std.proofs.Common.{◌≡◌, ℕ, zero, suc, ◌-◌, ◌<◌, ◌≤◌, List, [], ◌∷◌, ◌++◌, length, get_or, take, Some, sym, refl, ap, ◌∙◌, subst, arith}
+use Rattle.std.specs.List.{slice_get, AllByRecursion}
 use Rattle.std.proofs.ByRecursion.{All-weaker}
 use Rattle.hits.specs.Samples.{Sample}
 use Rattle.gnat_theory.specs.Tree.{Tree, Parts, Pivot, Range, pivots}
@@ -22,7 +22,7 @@ use Rattle.gnat_rows.proofs.Changes.{nth_within, nth_changed, nth_unchanged}
 use Rattle.gnat_rows.proofs.Only.{only_wider, only_then, only_node}
 use Rattle.gnat_rows.proofs.Showing.{Same, frame, shows_branch, Child, child, of_child, replaced, Mends, all_measured}
 use Rattle.gnat_filing.specs.Filed.{depth, deepest, Ready, LeavesTree}
-use Rattle.gnat_filing.specs.Widening.{Pivoted, Measured, Widens, Approaches}
+use Rattle.gnat_filing.specs.Widening.{Pivoted, Measured, Approaches}
 
 module _ {E : Type 0} (rows : List (Row E)) (b : BranchRecord) (at : ℕ) (ps : Parts E) (fs : List ℕ) where
   -- a branch of which the rows show the parts, and another row
@@ -93,7 +93,7 @@ module _ {E : Type 0} (rows : List (Row E)) (b : BranchRecord) (at : ℕ) (ps : 
             only_then rows rows₁ rows₂ front (only_wider rows rows₁ (at ∷ c.below) front (λ i a. a.1) given.only)
             (subst (OnlyIn front rows₁) (sym put) (only_wider rows₁ (with_node pivot_row kid rows₁) (pivot_row ∷ []) front (λ i a. (a.0, tt)) (only_node rows₁ pivot_row kid)))
 
-        same_rest : All (Same rows rows₂) (c.before ++ c.behind)
+        same_rest : AllByRecursion (Same rows rows₂) (c.before ++ c.behind)
         same_rest = All-weaker (λ i. Absent i front) (Same rows rows₂) (λ i a. only_front.others i a) (c.before ++ c.behind) (distinct_across front (c.before ++ c.behind) front_apart)
 
         pub level : (b' : BranchRecord) (f : List Range → List Range) (g : Tree E → Tree E) → b'.count ≡ b.count → Mends b b' j f → t' ≡ g c.tree → length (pivots (replaced (λ p. p) f g j ps)) ≡ length (pivots ps) → LeavesTree rows rows₂ (node.Branch b') (branch (replaced (λ p. p) f g j ps)) (at ∷ fs)

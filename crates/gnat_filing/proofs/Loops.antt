@@ -1,9 +1,9 @@
 -- What the loops over a branch's pivots leave. Assumes nothing.
-use Rattle.std.proofs.Common.{◌≡◌, ℕ, zero, suc, ◌+◌, ◌<◌, ◌≤◌, min, max, Bool, true, false, ltb, List, [], ◌∷◌, length, get_or, take, drop, sym, refl, ap, ◌∙◌, subst, not-suc-le-zero, add-one, arith}
-use Rattle.std.proofs.lemmas.List.{drop_more, drop_all, get_or-take}
-use Rattle.std.proofs.lemmas.Bool.{lt-ltb, le-ltb, cond-true, cond-false}
+use Rattle.std.proofs.Common.{◌≡◌, ℕ, zero, suc, ◌+◌, ◌<◌, ◌≤◌, min, max, Bool, true, false, List, [], ◌∷◌, length, get_or, take, drop, sym, refl, ap, ◌∙◌, not-suc-le-zero, add-one, arith}
+use Rattle.std.proofs.lemmas.List.{drop_more, drop_all}
+use Rattle.std.proofs.lemmas.Bool.{cond-true, cond-false}
 use Rattle.gnat_theory.specs.Choice.{first_from, first_place}
-use Rattle.gnat_theory.specs.Filing.{nearest, widened}
+use Rattle.gnat_theory.specs.Filing.{widened}
 use Rattle.gnat_rows.specs.Shows.{ranges}
 
 -- looking for the first of a list that no other comes before: j is the first so far, of those before i

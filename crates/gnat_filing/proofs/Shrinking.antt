@@ -1,35 +1,35 @@
 -- Dropping the sample of a row: out of its leaf, marked as a pivot, or below the nearest pivot. Assumes nothing.
-use Rattle.std.proofs.Common.{◌≡◌, ℕ, zero, suc, ◌+◌, ◌-◌, ◌<◌, ◌≤◌, max, Bool, true, false, cond, not, eqb, ◌⊎◌, List, [], ◌∷◌, ◌++◌, length, get_or, take, Some, filter, sym, refl, ap, ◌∙◌, subst, inl, inr, ⊎_elim, arith}
-use Rattle.std.specs.List.{slice_get, AllByRecursion as All}
+use Rattle.std.proofs.Common.{◌≡◌, ℕ, zero, suc, ◌+◌, ◌-◌, ◌<◌, Bool, true, false, cond, not, eqb, List, [], ◌∷◌, ◌++◌, length, get_or, take, Some, sym, refl, ap, ◌∙◌, subst, inl, inr, ⊎_elim, arith}
+use Rattle.std.specs.List.{slice_get, AllByRecursion}
 use Rattle.std.proofs.ByRecursion.{All-weaker}
 use Rattle.std.proofs.lemmas.List.{append_assoc}
 use Rattle.std.proofs.lemmas.Bool.{cases_eq, eq-eqb, ne_eqb, cond-true, cond-false}
 use Rattle.hits.specs.Samples.{Sample, Among}
 use Rattle.index.specs.Meaning.{without}
-use Rattle.gnat_theory.specs.Tree.{Tree, Parts, Pivot, Range, sample_of, pivots, gathered_parts, if_standing, always, standing, members}
-use Rattle.gnat_theory.specs.Tree.Tree.{leaf, branch}
+use Rattle.gnat_theory.specs.Tree.{Tree, Parts, Pivot, sample_of, pivots, gathered_parts, if_standing, always, standing, members}
+use Rattle.gnat_theory.specs.Tree.Tree.{branch}
 use Rattle.gnat_theory.specs.Tree.Parts.{none, part}
 use Rattle.gnat_theory.specs.Filing.{nearest, distances}
 use Rattle.gnat_theory.specs.Dropping.{marked_at, shrunk, shrunk_parts}
-use Rattle.gnat_theory.specs.Ranges.{Throughout, ThroughoutParts, OwnNearest, Placed}
+use Rattle.gnat_theory.specs.Ranges.{ThroughoutParts, OwnNearest, Placed}
 use Rattle.gnat_theory.specs.Shapes.{Branching, BranchingParts}
 use Rattle.gnat_theory.specs.Shuffles.{Shuffle, Apart}
 use Rattle.gnat_theory.specs.Shuffles.Shuffle.{after, swapped, in_turn}
 use Rattle.gnat_theory.proofs.Pruning.{all_among, among_left, among_right, among_append, part_equal, Other, apart_left, apart_right, others_left, others_right, without_none, marked_none, shrunk_none, shrunk_parts_none}
 use Rattle.gnat_theory.proofs.Sublists.{among_sub, apart_sub, one_side, pivot_sub, standing_sub, standing_parts_sub}
-use Rattle.gnat_theory.proofs.Shuffling.{all_shuffle, same_order, shuffle_back, shuffle_before, shuffle_front}
+use Rattle.gnat_theory.proofs.Shuffling.{all_shuffle, same_order, shuffle_back, shuffle_before}
 use Rattle.gnat_rows.specs.declared.Branch.{Branch as BranchRecord}
 use Rattle.gnat_rows.specs.declared.Leaf.{Leaf as LeafRecord}
 use Rattle.gnat_rows.specs.declared.Node.{Node}
 use Rattle.gnat_rows.specs.declared.Node.TheVariants as node
 use Rattle.gnat_rows.specs.declared.Row.{Row}
 use Rattle.gnat_rows.specs.Rows.{with_node, with_marked}
-use Rattle.gnat_rows.specs.Shows.{sample_in, pivot_in, held, HoldsSamples, Shows, ShowsParts}
+use Rattle.gnat_rows.specs.Shows.{sample_in, pivot_in, HoldsSamples, Shows, ShowsParts}
 use Rattle.gnat_rows.specs.Lying.{Absent, Distinct, OnlyIn}
 use Rattle.gnat_rows.proofs.Apart.{all_left, all_right, distinct_left, distinct_across, distinct_shuffle, arranged, arranged_back}
-use Rattle.gnat_rows.proofs.Changes.{nth_within, nth_changed, nth_unchanged, same_row}
+use Rattle.gnat_rows.proofs.Changes.{nth_changed, nth_unchanged, same_row}
 use Rattle.gnat_rows.proofs.Only.{only_none, only_wider, only_then, only_node, only_marked}
-use Rattle.gnat_rows.proofs.Showing.{Same, frame, shows_leaf, shows_branch, Child, ChildIs, child, child_holding, of_child, replaced, Mends, parts_within, held_among, row_among}
+use Rattle.gnat_rows.proofs.Showing.{Same, frame, shows_leaf, shows_branch, Child, ChildIs, child_holding, of_child, replaced, parts_within, held_among, row_among}
 use Rattle.gnat_filing.specs.Filed.{depth, deepest}
 use Rattle.gnat_filing.specs.Dropping.{without_row, Shortened, Droppable, Drops}
 use Rattle.gnat_filing.specs.Widening.{Measured}
@@ -70,7 +70,7 @@ module _ {E : Type 0} (rows : List (Row E)) (at : ℕ) (row : Row E) (there : sl
       let same : sample_in row ≡ x = ap sample_in (same_row rows at row h.0 there (ap (slice_get rows) (sym e) ∙ h.1)) ∙ h.2 in
       let number : x.number ≡ n = ap (λ z. z.number) (sym same) in
       let gone = cond-false (not (eqb i at)) (i ∷ without_row at is) (without_row at is) (ap not (eq-eqb i at e)) ∙ without_absent at is (subst (λ z. Absent z is) e d.0) in
-      let others : All (Other n) xs = All-weaker (λ y. x.number ≡ y.number → ⊥) (Other n) (λ y k q. k (number ∙ sym q)) xs a.0 in
+      let others : AllByRecursion (Other n) xs = All-weaker (λ y. x.number ≡ y.number → ⊥) (Other n) (λ y k q. k (number ∙ sym q)) xs a.0 in
       let left = cond-true (eqb x.number n) (without n xs) (x ∷ without n xs) (eq-eqb x.number n number) ∙ without_none n xs others in
       subst (λ z. HoldsSamples rows z (without n (x ∷ xs))) (sym gone) (subst (HoldsSamples rows is) (sym left) h.3))
       (λ ne.
@@ -221,15 +221,15 @@ module _ {E : Type 0} (rows : List (Row E)) (b : BranchRecord) (row : Row E) whe
       (among_append x (if_standing p) (standing t ++ gathered_parts if_standing rest) i)
 
 module _ {E : Type 0} (dist : E → E → ℕ) (all : List (Sample E)) where
-  nearest_here : (k n : ℕ) (ps : Parts E) (t : Tree E) → ChildIs n ps t → ThroughoutParts (OwnNearest dist) all k ps → All (λ s. nearest (distances dist all s) ≡ k + n) (members t) × Placed dist t
+  nearest_here : (k n : ℕ) (ps : Parts E) (t : Tree E) → ChildIs n ps t → ThroughoutParts (OwnNearest dist) all k ps → AllByRecursion (λ s. nearest (distances dist all s) ≡ k + n) (members t) × Placed dist t
   nearest_here k n none t i h = absurd i
   nearest_here k zero (part p col u rest) t i h =
       let back : k ≡ k + 0 = omega arith in
-      subst (λ z. All (λ s. nearest (distances dist all s) ≡ k + 0) (members z) × Placed dist z) i (subst (λ z. All (λ s. nearest (distances dist all s) ≡ z) (members u)) back h.0, h.1)
+      subst (λ z. AllByRecursion (λ s. nearest (distances dist all s) ≡ k + 0) (members z) × Placed dist z) i (subst (λ z. AllByRecursion (λ s. nearest (distances dist all s) ≡ z) (members u)) back h.0, h.1)
   nearest_here k (suc n) (part p col u rest) t i h =
       let up : suc k + n ≡ k + suc n = omega arith in
       let w = nearest_here (suc k) n rest t i h.2 in
-      (subst (λ z. All (λ s. nearest (distances dist all s) ≡ z) (members t)) up w.0, w.1)
+      (subst (λ z. AllByRecursion (λ s. nearest (distances dist all s) ≡ z) (members t)) up w.0, w.1)
 
 module _ {E : Type 0} (dist : E → E → ℕ) (degree left : ℕ) (rows : List (Row E)) (n : Node) (at : ℕ) (t : Tree E) (fs : List ℕ) (row : Row E) (d : Droppable dist degree left rows n at t fs row) where
   pub record IsDropBranch (b : BranchRecord) : Type 0 where
@@ -273,7 +273,7 @@ module _ {E : Type 0} (dist : E → E → ℕ) (degree left : ℕ) (rows : List 
         let order = arranged c.before pk c.below c.behind in
         let apart = distinct_shuffle (c.before ++ (pk ∷ (c.below ++ c.behind))) (pk ∷ (c.below ++ (c.before ++ c.behind))) order (subst Distinct c.lies d.apart) in
         let keep : (z : ℕ) → (pk ≡ z → ⊥) → slice_get rows' z ≡ slice_get rows z = λ z ne. ap (λ u. slice_get u z) put ∙ nth_unchanged rows at z f (λ q. ne (here ∙ sym q)) in
-        let kept : (zs : List ℕ) → Absent pk zs → All (Same rows rows') zs = λ zs a. All-weaker (λ z. pk ≡ z → ⊥) (Same rows rows') keep zs a in
+        let kept : (zs : List ℕ) → Absent pk zs → AllByRecursion (Same rows rows') zs = λ zs a. All-weaker (λ z. pk ≡ z → ⊥) (Same rows rows') keep zs a in
         let rest = all_right (λ z. pk ≡ z → ⊥) c.below (c.before ++ c.behind) apart.0 in
         let there' : slice_get rows' pk ≡ Some (f row) = ap (slice_get rows') here ∙ ap (λ u. slice_get u at) put ∙ nth_changed rows at f row d.there in
         let marks : pivot_in (f row) ≡ marked_at row.number (pivot_in c.row) =
@@ -351,7 +351,7 @@ module _ {E : Type 0} (dist : E → E → ℕ) (degree left : ℕ) (rows : List 
           let only_front : OnlyIn front rows rows₂ =
           only_then rows rows₁ rows₂ front (only_wider rows rows₁ c.below front (λ z a. a.1) given.only)
           (subst (OnlyIn front rows₁) (sym put) (only_wider rows₁ (with_node pj kid rows₁) (pj ∷ []) front (λ z a. (a.0, tt)) (only_node rows₁ pj kid))) in
-          let same_rest : All (Same rows rows₂) (c.before ++ c.behind) = All-weaker (λ z. Absent z front) (Same rows rows₂) (λ z a. only_front.others z a) (c.before ++ c.behind) (distinct_across front (c.before ++ c.behind) apart) in
+          let same_rest : AllByRecursion (Same rows rows₂) (c.before ++ c.behind) = All-weaker (λ z. Absent z front) (Same rows rows₂) (λ z a. only_front.others z a) (c.before ++ c.behind) (distinct_across front (c.before ++ c.behind) apart) in
           let g = shrunk row.number in
           let changed = c.put_back rows₂ b (λ p. p) (λ col. col) g (f c.row) given.lies (record { pivots = refl; here = refl; others = λ z q. refl }) there₂ refl below'
           (all_left (Same rows rows₂) c.before c.behind same_rest) (all_right (Same rows rows₂) c.before c.behind same_rest) in

@@ -1,5 +1,5 @@
 -- Dropping the sample of a row from below a node.
-use Rattle.std.specs.Prelude.{◌≡◌, ℕ, ◌<◌, ◌≤◌, Bool, true, false, cond, not, List, [], ◌∷◌, length, Some, filter, ◌==◌, ◌≢◌, slice_index}
+use Rattle.std.specs.Prelude.{◌≡◌, ℕ, ◌<◌, ◌≤◌, Bool, true, false, cond, not, List, ◌∷◌, length, Some, filter, ◌==◌, ◌≢◌, slice_index}
 use Rattle.std.specs.List.{slice_get}
 use Rattle.hits.specs.Samples.{Among}
 use Rattle.gnat_theory.specs.Tree.{Tree, standing, members}

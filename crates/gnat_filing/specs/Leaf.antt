@@ -1,5 +1,5 @@
 -- A leaf with one more row.
-use Rattle.std.specs.Prelude.{◌≡◌, ℕ, ◌+◌, ◌≤◌, List, [], ◌∷◌, ◌++◌, length}
+use Rattle.std.specs.Prelude.{◌≡◌, ℕ, ◌+◌, [], ◌∷◌, ◌++◌, length}
 use Rattle.gnat_rows.specs.declared.Leaf.{Leaf as LeafRecord}
 use Rattle.gnat_rows.specs.Shows.{held}
 

@@ -1,6 +1,5 @@
 -- One branch on the way of a sample: its pivots measured, the nearest found, the ranges to its child widened.
 use Rattle.std.specs.Prelude.{◌≡◌, ℕ, ◌<◌, ◌≤◌, List, length, take, ◌≢◌, slice_index}
-use Rattle.gnat_theory.specs.Tree.{Range}
 use Rattle.gnat_theory.specs.Filing.{nearest, widened}
 use Rattle.gnat_rows.specs.declared.Branch.{Branch}
 use Rattle.gnat_rows.specs.declared.Row.{Row}

@@ -1,7 +1,7 @@
 -- Writing the places of rows. Assumes nothing.
-use Rattle.std.proofs.Common.{◌≡◌, ℕ, zero, suc, ◌+◌, ◌-◌, ◌<◌, ◌≤◌, List, [], ◌∷◌, ◌++◌, map, length, get_or, take, drop, set, Some, None, sym, refl, ap, ◌∙◌, subst, arith, length-append, length-drop, length-set, length-take, drop-cons, take-suc}
+use Rattle.std.proofs.Common.{◌≡◌, ℕ, zero, suc, ◌+◌, ◌-◌, ◌<◌, ◌≤◌, List, [], ◌∷◌, ◌++◌, length, get_or, take, drop, set, Some, sym, refl, ap, ◌∙◌, subst, arith, length-append, length-drop, length-take, drop-cons, take-suc}
 use Rattle.std.specs.List.{slice_get}
-use Rattle.std.proofs.lemmas.List.{length-map, append_assoc, set_at, get_or-drop, get_or-append_right, take-append-drop}
+use Rattle.std.proofs.lemmas.List.{append_assoc, set_at, get_or-drop, get_or-append_right, take-append-drop}
 use Rattle.gnat_rows.specs.declared.Row.{Row}
 use Rattle.gnat_rows.specs.Rows.{with_place}
 use Rattle.gnat_rows.specs.Lying.{Absent, Distinct}

@@ -1,6 +1,6 @@
 -- The list that the place fields of rows make, and what is found by it.
-use Rattle.std.specs.Prelude.{◌≡◌, ℕ, zero, suc, ◌+◌, ◌-◌, ◌<◌, List, [], ◌∷◌, ◌++◌, map, length, take, drop, Some, None, Option, slice_index, slice_set}
-use Rattle.std.specs.List.{AllByRecursion as All}
+use Rattle.std.specs.Prelude.{◌≡◌, ℕ, zero, suc, ◌-◌, ◌<◌, List, [], ◌∷◌, ◌++◌, map, take, drop, Some, None, Option, slice_index, slice_set}
+use Rattle.std.specs.List.{AllByRecursion}
 use Rattle.index.specs.Meaning.{element_at}
 use Rattle.gnat_rows.specs.declared.Row.{Row}
 use Rattle.gnat_rows.specs.Rows.{HasRow}
@@ -8,7 +8,7 @@ use Rattle.gnat_rows.specs.Trees.{samples_at}
 
 -- all are below n
 abbrev pub Within : List ℕ → ℕ → Type 0
-Within is n = All (λ i. i < n) is
+Within is n = AllByRecursion (λ i. i < n) is
 
 -- 0, 1, 2 and so on, n of them, over what a list held
 abbrev pub counted_from : ℕ → ℕ → List ℕ → List ℕ

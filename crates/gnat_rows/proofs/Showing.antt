@@ -1,11 +1,11 @@
 -- The tree that rows show depends on its own rows alone; one child of a branch, and the branch with it changed. Assumes
 -- nothing.
-use Rattle.std.proofs.Common.{◌≡◌, ℕ, zero, suc, ◌+◌, ◌<◌, ◌≤◌, ◌⊎◌, List, [], ◌∷◌, ◌++◌, length, get_or, take, drop, Some, sym, refl, ap, ◌∙◌, subst, inl, inr, ⊎_elim, arith, length-append}
-use Rattle.std.specs.List.{slice_get, AllByRecursion as All}
+use Rattle.std.proofs.Common.{◌≡◌, ℕ, zero, suc, ◌+◌, ◌<◌, ◌≤◌, List, [], ◌∷◌, ◌++◌, length, get_or, take, drop, Some, sym, refl, ap, ◌∙◌, subst, inl, inr, ⊎_elim, arith, length-append}
+use Rattle.std.specs.List.{slice_get, AllByRecursion}
 use Rattle.std.proofs.lemmas.List.{append_assoc, drop_more}
 use Rattle.std.proofs.ByRecursion.{All-append}
 use Rattle.hits.specs.Samples.{Sample, Among}
-use Rattle.gnat_theory.specs.Tree.{Tree, Parts, Pivot, Range, sample_of, pivots, members, gathered, gathered_parts, always}
+use Rattle.gnat_theory.specs.Tree.{Tree, Parts, Pivot, Range, pivots, members, gathered, gathered_parts, always}
 use Rattle.gnat_theory.specs.Tree.Tree.{leaf, branch}
 use Rattle.gnat_theory.specs.Tree.Parts.{none, part}
 use Rattle.gnat_theory.specs.Filing.{distances}
@@ -25,7 +25,7 @@ module _ {E : Type 0} (rows rows' : List (Row E)) where
   abbrev pub Same : ℕ → Type 0
   Same i = slice_get rows' i ≡ slice_get rows i
 
-  pub holds_frame : (fs : List ℕ) (xs : List (Sample E)) → All Same fs → HoldsSamples rows fs xs → HoldsSamples rows' fs xs
+  pub holds_frame : (fs : List ℕ) (xs : List (Sample E)) → AllByRecursion Same fs → HoldsSamples rows fs xs → HoldsSamples rows' fs xs
   holds_frame [] [] a h = tt
   holds_frame [] (x ∷ xs) a h = h
   holds_frame (i ∷ is) [] a h = h
@@ -33,18 +33,18 @@ module _ {E : Type 0} (rows rows' : List (Row E)) where
 
   mutual
     -- the tree is as it was where its rows are
-    pub frame : (n : Node) (t : Tree E) (fs : List ℕ) → All Same fs → Shows rows n t fs → Shows rows' n t fs
+    pub frame : (n : Node) (t : Tree E) (fs : List ℕ) → AllByRecursion Same fs → Shows rows n t fs → Shows rows' n t fs
     frame n (leaf xs) fs a s = (s.0, s.1, s.2, s.3, s.4, holds_frame fs xs a s.5)
     frame n (branch ps) fs a s = (s.0, s.1, s.2, s.3, frame_parts s.0 s.0 0 ps fs refl (λ k l. refl) a s.4)
 
     -- and so are the parts from the j-th on, in a branch of the same pivots and, from there on, ranges
-    pub frame_parts : (b b' : BranchRecord) (j : ℕ) (ps : Parts E) (fs : List ℕ) → b'.pivots ≡ b.pivots → ((k : ℕ) → j ≤ k → column b' k ≡ column b k) → All Same fs → ShowsParts rows b j ps fs → ShowsParts rows' b' j ps fs
+    pub frame_parts : (b b' : BranchRecord) (j : ℕ) (ps : Parts E) (fs : List ℕ) → b'.pivots ≡ b.pivots → ((k : ℕ) → j ≤ k → column b' k ≡ column b k) → AllByRecursion Same fs → ShowsParts rows b j ps fs → ShowsParts rows' b' j ps fs
     frame_parts b b' j none fs e c a s = s
     frame_parts b b' j (part p col t rest) fs e c a s =
         let i = get_or b.pivots j 0 in
         let below = s.1 in
         let others = s.2 in
-        let a' : All Same (i ∷ (below ++ others)) = subst (All Same) s.8 a in (
+        let a' : AllByRecursion Same (i ∷ (below ++ others)) = subst (AllByRecursion Same) s.8 a in (
           s.0,
           below,
           others,
@@ -65,7 +65,7 @@ module _ {E : Type 0} (rows : List (Row E)) where
   shows_branch n b (leaf xs) fs e s = let z : ◌≡◌ {A = ℕ} 0 1 = (let q = s.1 in cc) in absurd (omega arith)
   shows_branch n b (branch ps) fs e s = let same : s.0 ≡ b = (let q = s.1 in cc) in (ps, refl, ap (λ z. z.count) (sym same) ∙ s.2, subst (λ z. z.count ≤ 8) same s.3, subst (λ z. ShowsParts rows z 0 ps fs) same s.4)
 
-  pub holds_within : (fs : List ℕ) (xs : List (Sample E)) → HoldsSamples rows fs xs → All (λ i. i < length rows) fs
+  pub holds_within : (fs : List ℕ) (xs : List (Sample E)) → HoldsSamples rows fs xs → AllByRecursion (λ i. i < length rows) fs
   holds_within [] [] h = tt
   holds_within [] (x ∷ xs) h = tt
   holds_within (i ∷ is) [] h = absurd h
@@ -85,14 +85,14 @@ module _ {E : Type 0} (rows : List (Row E)) where
 
   mutual
     -- a tree lies within the rows
-    pub shows_within : (n : Node) (t : Tree E) (fs : List ℕ) → Shows rows n t fs → All (λ i. i < length rows) fs
+    pub shows_within : (n : Node) (t : Tree E) (fs : List ℕ) → Shows rows n t fs → AllByRecursion (λ i. i < length rows) fs
     shows_within n (leaf xs) fs s = holds_within fs xs s.5
     shows_within n (branch ps) fs s = parts_within s.0 0 ps fs s.4
 
-    pub parts_within : (b : BranchRecord) (j : ℕ) (ps : Parts E) (fs : List ℕ) → ShowsParts rows b j ps fs → All (λ i. i < length rows) fs
-    parts_within b j none fs s = subst (All (λ i. i < length rows)) (sym s) tt
+    pub parts_within : (b : BranchRecord) (j : ℕ) (ps : Parts E) (fs : List ℕ) → ShowsParts rows b j ps fs → AllByRecursion (λ i. i < length rows) fs
+    parts_within b j none fs s = subst (AllByRecursion (λ i. i < length rows)) (sym s) tt
     parts_within b j (part p col t rest) fs s =
-        subst (All (λ i. i < length rows)) (sym s.8)
+        subst (AllByRecursion (λ i. i < length rows)) (sym s.8)
         (nth_within rows (get_or b.pivots j 0) s.0 s.3, All-append (λ i. i < length rows) s.1 s.2 (shows_within s.0.node t s.1 s.6) (parts_within b (suc j) rest s.2 s.7))
 
   mutual
@@ -145,7 +145,7 @@ module _ {E : Type 0} (rows : List (Row E)) (b : BranchRecord) where
     pub is_child : ChildIs n ps tree
     -- with this child changed, the parts changed
     pub put_back : (rows' : List (Row E)) (b' : BranchRecord) (h : Pivot E → Pivot E) (f : List Range → List Range) (g : Tree E → Tree E) (row' : Row E) (below' : List ℕ) → Mends b b' m f
-        → slice_get rows' (get_or b.pivots m 0) ≡ Some row' → pivot_in row' ≡ h (pivot_in row) → Shows rows' row'.node (g tree) below' → All (Same rows rows') before → All (Same rows rows') behind
+        → slice_get rows' (get_or b.pivots m 0) ≡ Some row' → pivot_in row' ≡ h (pivot_in row) → Shows rows' row'.node (g tree) below' → AllByRecursion (Same rows rows') before → AllByRecursion (Same rows rows') behind
         → ShowsParts rows' b' k (replaced h f g n ps) (before ++ (get_or b.pivots m 0 ∷ (below' ++ behind)))
 
   child_first : (k : ℕ) (p : Pivot E) (col : List Range) (t : Tree E) (rest : Parts E) (fs : List ℕ) → ShowsParts rows b k (part p col t rest) fs → Child k 0 k (part p col t rest) fs

@@ -1,6 +1,5 @@
 -- The rows that show a tree give it back. Assumes nothing.
-use Rattle.std.proofs.Common.{◌≡◌, ℕ, zero, suc, ◌+◌, ◌<◌, ◌≤◌, max, List, [], ◌∷◌, ◌++◌, length, get_or, Some, sym, refl, ap, ◌∙◌, arith}
-use Rattle.std.specs.List.{slice_get}
+use Rattle.std.proofs.Common.{◌≡◌, ℕ, zero, suc, ◌<◌, ◌≤◌, List, [], ◌∷◌, length, refl, ap, ◌∙◌, arith}
 use Rattle.hits.specs.Samples.{Sample}
 use Rattle.gnat_theory.specs.Tree.{Tree, Parts, pivots}
 use Rattle.gnat_theory.specs.Tree.Tree.{leaf, branch}
@@ -9,7 +8,7 @@ use Rattle.gnat_theory.specs.Shapes.{Branching, BranchingParts, pivot_count, par
 use Rattle.gnat_rows.specs.declared.Branch.{Branch as BranchRecord}
 use Rattle.gnat_rows.specs.declared.Node.{Node}
 use Rattle.gnat_rows.specs.declared.Row.{Row}
-use Rattle.gnat_rows.specs.Shows.{HoldsSamples, Shows, ShowsParts, sample_in, pivot_in, column}
+use Rattle.gnat_rows.specs.Shows.{HoldsSamples, Shows, ShowsParts, column}
 use Rattle.gnat_rows.specs.Trees.{sample_on, samples_at, part_on, parts_by, tree_of, height, height_parts}
 
 module _ {E : Type 0} (rows : List (Row E)) where

@@ -1,13 +1,13 @@
 -- Rows that are apart, and what a change leaves as it was.
 use Rattle.std.specs.Prelude.{◌≡◌, ℕ, List, [], ◌∷◌, Some, ◌≢◌}
-use Rattle.std.specs.List.{slice_get, AllByRecursion as All}
+use Rattle.std.specs.List.{slice_get, AllByRecursion}
 use Rattle.gnat_rows.specs.declared.Row.{Row}
 use Rattle.gnat_rows.specs.Rows.{HasRow}
 use Rattle.gnat_rows.specs.Shows.{sample_in}
 
 -- i is none of these
 abbrev pub Absent : ℕ → List ℕ → Type 0
-Absent i fs = All (λ j. i ≢ j) fs
+Absent i fs = AllByRecursion (λ j. i ≢ j) fs
 
 -- no two of these are one
 abbrev pub Distinct : List ℕ → Type 0

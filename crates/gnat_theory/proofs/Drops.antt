@@ -1,6 +1,6 @@
 -- Dropping a sample: what the tree then holds, and that its ranges and shape stay. Assumes nothing.
 use Rattle.std.proofs.Common.{◌≡◌, ℕ, suc, ◌≤◌, Bool, true, false, cond, eqb, List, [], ◌∷◌, ◌++◌, length, sym, refl, ap, ◌∙◌, subst, ap₂, arith}
-use Rattle.std.specs.List.{AllByRecursion as All}
+use Rattle.std.specs.List.{AllByRecursion}
 use Rattle.std.proofs.lemmas.Bool.{cond_both, cond-true, cond-false}
 use Rattle.std.proofs.ByRecursion.{All-append}
 use Rattle.hits.specs.Samples.{Sample}
@@ -19,10 +19,10 @@ use Rattle.gnat_theory.proofs.Gathering.{all_left, all_right}
 
 -- a fact that stays where some of the samples leave
 abbrev pub OfFewer : {E : Type 0} → ChildFact E → Type 1
-OfFewer {E} F = (all : List (Sample E)) (j : ℕ) (rs : List Range) (p : Sample E) (xs ys : List (Sample E)) → ((P : Sample E → Type 0) → All P xs → All P ys) → F all j rs p xs → F all j rs p ys
+OfFewer {E} F = (all : List (Sample E)) (j : ℕ) (rs : List Range) (p : Sample E) (xs ys : List (Sample E)) → ((P : Sample E → Type 0) → AllByRecursion P xs → AllByRecursion P ys) → F all j rs p xs → F all j rs p ys
 
 module _ {E : Type 0} (dist : E → E → ℕ) where
-  fits_fewer : (ps : List (Sample E)) (rs : List Range) (p : Sample E) (xs ys : List (Sample E)) → ((P : Sample E → Type 0) → All P xs → All P ys) → Fits dist ps rs (p ∷ xs) → Fits dist ps rs (p ∷ ys)
+  fits_fewer : (ps : List (Sample E)) (rs : List Range) (p : Sample E) (xs ys : List (Sample E)) → ((P : Sample E → Type 0) → AllByRecursion P xs → AllByRecursion P ys) → Fits dist ps rs (p ∷ xs) → Fits dist ps rs (p ∷ ys)
   fits_fewer [] [] p xs ys g f = tt
   fits_fewer [] (r ∷ rs) p xs ys g f = f
   fits_fewer (x ∷ ps) [] p xs ys g f = f
@@ -65,9 +65,9 @@ module _ {E : Type 0} (n : ℕ) where
       let ih : length (without n xs) ≤ length xs = without_fewer xs in
       cond_both (eqb x.number n) (without n xs) (x ∷ without n xs) (λ z. length z ≤ suc (length xs)) (λ e. omega arith) (λ e. omega arith)
 
-  without_all : (P : Sample E → Type 0) (xs : List (Sample E)) → All P xs → All P (without n xs)
+  without_all : (P : Sample E → Type 0) (xs : List (Sample E)) → AllByRecursion P xs → AllByRecursion P (without n xs)
   without_all P [] a = tt
-  without_all P (x ∷ xs) a = cond_both (eqb x.number n) (without n xs) (x ∷ without n xs) (All P) (λ e. without_all P xs a.1) (λ e. (a.0, without_all P xs a.1))
+  without_all P (x ∷ xs) a = cond_both (eqb x.number n) (without n xs) (x ∷ without n xs) (AllByRecursion P) (λ e. without_all P xs a.1) (λ e. (a.0, without_all P xs a.1))
 
   marked_sample : (p : Pivot E) → sample_of (marked_at n p) ≡ sample_of p
   marked_sample p = cond_both (eqb p.number n) (record { number = p.number; element = p.element; marked = true }) p (λ z. sample_of z ≡ sample_of p) (λ e. refl) (λ e. refl)
@@ -121,11 +121,11 @@ module _ {E : Type 0} (n : ℕ) where
 
   -- nothing new is in the tree
   mutual
-    shrunk_all : (P : Sample E → Type 0) (t : Tree E) → All P (members t) → All P (members (shrunk n t))
+    shrunk_all : (P : Sample E → Type 0) (t : Tree E) → AllByRecursion P (members t) → AllByRecursion P (members (shrunk n t))
     shrunk_all P (leaf xs) a = without_all P xs a
     shrunk_all P (branch ps) a = shrunk_parts_all P ps a
 
-    shrunk_parts_all : (P : Sample E → Type 0) (ps : Parts E) → All P (gathered_parts always ps) → All P (gathered_parts always (shrunk_parts n ps))
+    shrunk_parts_all : (P : Sample E → Type 0) (ps : Parts E) → AllByRecursion P (gathered_parts always ps) → AllByRecursion P (gathered_parts always (shrunk_parts n ps))
     shrunk_parts_all P none a = tt
     shrunk_parts_all P (part p column t rest) a = (
       subst P (sym (marked_sample p)) a.0,

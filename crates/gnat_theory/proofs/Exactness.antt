@@ -1,9 +1,8 @@
 -- The search keeps exactly what is wanted of the hits of all standing samples. Assumes the laws of the distance.
 use Rattle.std.proofs.Common.{◌≡◌, ℕ, suc, ◌<◌, Bool, true, false, cond, List, [], ◌∷◌, ◌++◌, take, Some, None, Option, sym, refl, ap, ◌∙◌, subst}
-use Rattle.std.specs.List.{AllByRecursion as All}
+use Rattle.std.specs.List.{AllByRecursion}
 use Rattle.std.proofs.lemmas.Bool.{cond_both}
 use Rattle.std.proofs.lemmas.List.{append_assoc, append-nil}
-use Rattle.std.proofs.ByRecursion.{All-weaker}
 use Rattle.metric.specs.Laws.{MetricLaws}
 use Rattle.hits.specs.declared.Hit.{Hit}
 use Rattle.hits.specs.Order.{put, inside}
@@ -71,7 +70,7 @@ module _ {E : Type 0} (top : ℕ) (dist : E → E → ℕ) (laws : MetricLaws to
   settled_all (y ∷ ys) xs R f = settled_more y (ys ++ xs) R (settled_all ys xs R f)
 
   -- samples beyond a settled reach may be counted in
-  count_beyond : (ys xs : List (Sample E)) → All (Beyond top dist laws q (Settled xs)) ys → result (hits dist q (ys ++ xs)) ≡ result (hits dist q xs)
+  count_beyond : (ys xs : List (Sample E)) → AllByRecursion (Beyond top dist laws q (Settled xs)) ys → result (hits dist q (ys ++ xs)) ≡ result (hits dist q xs)
   count_beyond [] xs a = refl
   count_beyond (y ∷ ys) xs a = settled_all ys xs a.0.0 a.0.1 y a.0.2 ∙ count_beyond ys xs a.1
 

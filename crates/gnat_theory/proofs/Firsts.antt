@@ -1,10 +1,9 @@
 -- The first that no other comes before. Assumes nothing.
-use Rattle.std.proofs.Common.{◌≡◌, ℕ, zero, suc, ◌+◌, ◌<◌, ◌≤◌, Bool, true, false, cond, List, [], ◌∷◌, ◌++◌, length, get_or, sym, refl, ap, ◌∙◌, subst, arith}
-use Rattle.std.specs.List.{AllByRecursion as All, IsFirstBest}
+use Rattle.std.proofs.Common.{◌≡◌, ℕ, zero, suc, ◌+◌, ◌<◌, ◌≤◌, Bool, List, [], ◌∷◌, length, get_or, sym, refl, ap, ◌∙◌, subst, arith}
+use Rattle.std.specs.List.{AllByRecursion, IsFirstBest}
 use Rattle.std.specs.Cmp.{IsStrictWeakOrder}
 use Rattle.std.proofs.lemmas.List.MinMax.{IsFirstBest-none, IsFirstBest-keeps, IsFirstBest-takes}
 use Rattle.std.proofs.lemmas.Bool.{cond_both}
-use Rattle.std.proofs.lemmas.List.{get_or_default}
 use Rattle.gnat_theory.specs.Choice.{first_from, first_place, removed}
 use Rattle.gnat_theory.specs.Rules.{TakenOut}
 use Rattle.gnat_theory.specs.Shuffles.{Shuffle}
@@ -55,7 +54,7 @@ module _ {X : Type 0} where
       let h = taken_out d xs n (omega arith) in
       (x ∷ h.0, h.1, ap (λ z. x ∷ z) h.2, ap (λ z. x ∷ z) h.3)
 
-  pub all_removed : (P : X → Type 0) (n : ℕ) (xs : List X) → All P xs → All P (removed n xs)
+  pub all_removed : (P : X → Type 0) (n : ℕ) (xs : List X) → AllByRecursion P xs → AllByRecursion P (removed n xs)
   all_removed P n [] a = tt
   all_removed P zero (x ∷ xs) a = a.1
   all_removed P (suc n) (x ∷ xs) a = (a.0, all_removed P n xs a.1)

@@ -1,36 +1,36 @@
 -- What the samples of a tree are. Assumes nothing.
-use Rattle.std.proofs.Common.{ℕ, Bool, true, false, cond, List, [], ◌∷◌, ◌++◌}
-use Rattle.std.specs.List.{AllByRecursion as All}
+use Rattle.std.proofs.Common.{Bool, true, false, cond, List, [], ◌∷◌, ◌++◌}
+use Rattle.std.specs.List.{AllByRecursion}
 use Rattle.std.proofs.ByRecursion.{All-append}
 use Rattle.hits.specs.Samples.{Sample}
-use Rattle.gnat_theory.specs.Tree.{Tree, Parts, Pivot, sample_of, gathered, gathered_parts, if_standing, always, standing, members}
+use Rattle.gnat_theory.specs.Tree.{Tree, Parts, Pivot, sample_of, gathered_parts, if_standing, always, standing, members}
 use Rattle.gnat_theory.specs.Tree.Tree.{leaf, branch}
 use Rattle.gnat_theory.specs.Tree.Parts.{none, part}
 
 module _ {X : Type 0} (P : X → Type 0) where
-  pub all_left : (xs ys : List X) → All P (xs ++ ys) → All P xs
+  pub all_left : (xs ys : List X) → AllByRecursion P (xs ++ ys) → AllByRecursion P xs
   all_left [] ys a = tt
   all_left (x ∷ xs) ys a = (a.0, all_left xs ys a.1)
 
-  pub all_right : (xs ys : List X) → All P (xs ++ ys) → All P ys
+  pub all_right : (xs ys : List X) → AllByRecursion P (xs ++ ys) → AllByRecursion P ys
   all_right [] ys a = a
   all_right (x ∷ xs) ys a = all_right xs ys a.1
 
 module _ {E : Type 0} (P : Sample E → Type 0) where
-  pub all_if_standing : (p : Pivot E) → P (sample_of p) → All P (if_standing p)
+  pub all_if_standing : (p : Pivot E) → P (sample_of p) → AllByRecursion P (if_standing p)
   all_if_standing p h = go p.marked
     where
-      go : (t : Bool) → All P (cond t [] (sample_of p ∷ []))
+      go : (t : Bool) → AllByRecursion P (cond t [] (sample_of p ∷ []))
       go true = tt
       go false = (h, tt)
 
   -- what holds of all members holds of all that stand
   mutual
-    pub all_standing : (t : Tree E) → All P (members t) → All P (standing t)
+    pub all_standing : (t : Tree E) → AllByRecursion P (members t) → AllByRecursion P (standing t)
     all_standing (leaf xs) a = a
     all_standing (branch ps) a = all_standing_parts ps a
 
-    all_standing_parts : (ps : Parts E) → All P (gathered_parts always ps) → All P (gathered_parts if_standing ps)
+    all_standing_parts : (ps : Parts E) → AllByRecursion P (gathered_parts always ps) → AllByRecursion P (gathered_parts if_standing ps)
     all_standing_parts none a = tt
     all_standing_parts (part p column t rest) a =
         All-append P (if_standing p) (standing t ++ gathered_parts if_standing rest) (all_if_standing p a.0)

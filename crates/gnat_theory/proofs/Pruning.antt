@@ -1,6 +1,6 @@
 -- A sample in a leaf is dropped on the way down to its nearest pivots. Assumes nothing.
 use Rattle.std.proofs.Common.{◌≡◌, ℕ, zero, suc, ◌+◌, ◌<◌, ◌≤◌, Bool, true, false, cond, eqb, ◌⊎◌, List, [], ◌∷◌, ◌++◌, sym, refl, ap, ◌∙◌, subst, inl, inr, ⊎_elim, arith}
-use Rattle.std.specs.List.{AllByRecursion as All}
+use Rattle.std.specs.List.{AllByRecursion}
 use Rattle.std.proofs.lemmas.Bool.{cond_both, eqb-true, ne_eqb, cond-false}
 use Rattle.std.proofs.ByRecursion.{All-weaker}
 use Rattle.hits.specs.Samples.{Sample, Among, Rising}
@@ -17,7 +17,7 @@ use Rattle.gnat_theory.specs.Keeping.{PrunedIsShrunk}
 use Rattle.gnat_theory.proofs.Gathering.{all_left, all_right}
 use Rattle.gnat_theory.proofs.Shuffling.{all_shuffle}
 
-pub all_among : {X : Type 0} (P : X → Type 0) (x : X) (xs : List X) → All P xs → Among x xs → P x
+pub all_among : {X : Type 0} (P : X → Type 0) (x : X) (xs : List X) → AllByRecursion P xs → Among x xs → P x
 all_among P x [] a m = absurd m
 all_among P x (y ∷ ys) a (inl e) = subst P (sym e) a.0
 all_among P x (y ∷ ys) a (inr m) = all_among P x ys a.1 m
@@ -53,11 +53,11 @@ module _ {E : Type 0} where
   apart_left [] ys a = tt
   apart_left (x ∷ xs) ys a = (all_left (λ y. x.number ≡ y.number → ⊥) xs ys a.0, apart_left xs ys a.1)
 
-  pub others_left : (s : Sample E) (xs ys : List (Sample E)) → Apart (xs ++ ys) → Among s ys → All (Other s.number) xs
+  pub others_left : (s : Sample E) (xs ys : List (Sample E)) → Apart (xs ++ ys) → Among s ys → AllByRecursion (Other s.number) xs
   others_left s [] ys a m = tt
   others_left s (x ∷ xs) ys a m = (all_among (λ y. x.number ≡ y.number → ⊥) s (xs ++ ys) a.0 (among_right s xs ys m), others_left s xs ys a.1 m)
 
-  pub others_right : (s : Sample E) (xs ys : List (Sample E)) → Apart (xs ++ ys) → Among s xs → All (Other s.number) ys
+  pub others_right : (s : Sample E) (xs ys : List (Sample E)) → Apart (xs ++ ys) → Among s xs → AllByRecursion (Other s.number) ys
   others_right s [] ys a m = absurd m
   others_right s (x ∷ xs) ys a (inl e) =
       All-weaker (λ y. x.number ≡ y.number → ⊥) (Other s.number) (λ y h i. h (ap (λ z. z.number) (sym e) ∙ sym i)) ys (all_right (λ y. x.number ≡ y.number → ⊥) xs ys a.0)
@@ -69,7 +69,7 @@ module _ {E : Type 0} where
   apart_shuffle _ _ (swapped x y xs) a = (((λ e. a.0.0 (sym e)), a.1.0), (a.0.1, a.1.1))
   apart_shuffle _ _ (in_turn xs ys zs s t) a = apart_shuffle ys zs t (apart_shuffle xs ys s a)
 
-  rising_above : (low high : ℕ) (xs : List (Sample E)) → Rising low high xs → All (λ y. low < y.number) xs
+  rising_above : (low high : ℕ) (xs : List (Sample E)) → Rising low high xs → AllByRecursion (λ y. low < y.number) xs
   rising_above low high [] r = tt
   rising_above low high (x ∷ xs) r =
       let l = r.0 in
@@ -81,25 +81,25 @@ module _ {E : Type 0} where
   rising_apart low high (x ∷ xs) r =
       (All-weaker (λ y. x.number < y.number) (λ y. x.number ≡ y.number → ⊥) (λ y l e. omega arith) xs (rising_above x.number high xs r.2), rising_apart x.number high xs r.2)
 
-  pub without_none : (n : ℕ) (xs : List (Sample E)) → All (Other n) xs → without n xs ≡ xs
+  pub without_none : (n : ℕ) (xs : List (Sample E)) → AllByRecursion (Other n) xs → without n xs ≡ xs
   without_none n [] a = refl
   without_none n (x ∷ xs) a = cond-false (eqb x.number n) (without n xs) (x ∷ without n xs) (ne_eqb x.number n a.0) ∙ ap (λ z. x ∷ z) (without_none n xs a.1)
 
-  pub marked_none : (n : ℕ) (p : Pivot E) → All (Other n) (if_standing p) → marked_at n p ≡ p
+  pub marked_none : (n : ℕ) (p : Pivot E) → AllByRecursion (Other n) (if_standing p) → marked_at n p ≡ p
   marked_none n p a =
       cond_both (eqb p.number n) (record { number = p.number; element = p.element; marked = true }) p (λ z. z ≡ p) (λ e. go (eqb-true p.number n e) p.marked refl) (λ e. refl)
     where
       go : p.number ≡ n → (m : Bool) → p.marked ≡ m → record { number = p.number; element = p.element; marked = true } ≡ p
       go e true f = λ i. record { number = p.number; element = p.element; marked = sym f i }
-      go e false f = let b : All (Other n) (sample_of p ∷ []) = subst (λ m. All (Other n) (cond m [] (sample_of p ∷ []))) f a in absurd (b.0 e)
+      go e false f = let b : AllByRecursion (Other n) (sample_of p ∷ []) = subst (λ m. AllByRecursion (Other n) (cond m [] (sample_of p ∷ []))) f a in absurd (b.0 e)
 
   -- where n does not stand, dropping it changes nothing
   mutual
-    pub shrunk_none : (n : ℕ) (t : Tree E) → All (Other n) (standing t) → shrunk n t ≡ t
+    pub shrunk_none : (n : ℕ) (t : Tree E) → AllByRecursion (Other n) (standing t) → shrunk n t ≡ t
     shrunk_none n (leaf xs) a = ap leaf (without_none n xs a)
     shrunk_none n (branch ps) a = ap branch (shrunk_parts_none n ps a)
 
-    pub shrunk_parts_none : (n : ℕ) (ps : Parts E) → All (Other n) (gathered_parts if_standing ps) → shrunk_parts n ps ≡ ps
+    pub shrunk_parts_none : (n : ℕ) (ps : Parts E) → AllByRecursion (Other n) (gathered_parts if_standing ps) → shrunk_parts n ps ≡ ps
     shrunk_parts_none n none a = refl
     shrunk_parts_none n (part p column t rest) a =
         let o = if_standing p in

@@ -1,11 +1,11 @@
 -- A struck child is out of the reach that the search had. Assumes the laws of the distance.
-use Rattle.std.proofs.Common.{◌≡◌, ℕ, suc, Bool, true, false, cond, List, [], ◌∷◌, ◌++◌, Some, None, Option, sym, refl, ◌∙◌, subst, inl, inr}
+use Rattle.std.proofs.Common.{◌≡◌, ℕ, suc, List, [], ◌∷◌, ◌++◌, Some, None, Option, sym, refl, ◌∙◌, subst, inl, inr}
 use Rattle.std.proofs.lemmas.Bool.{cond_both}
 use Rattle.std.proofs.lemmas.List.{append_assoc, append-nil}
 use Rattle.std.proofs.ByRecursion.{All-weaker}
 use Rattle.metric.specs.Laws.{MetricLaws}
 use Rattle.hits.specs.Samples.{Sample, Among}
-use Rattle.gnat_theory.specs.Tree.{Tree, Parts, Pivot, Range, sample_of, pivots, members}
+use Rattle.gnat_theory.specs.Tree.{Parts, Pivot, Range, sample_of, pivots, members}
 use Rattle.gnat_theory.specs.Tree.Parts.{none, part}
 use Rattle.gnat_theory.specs.Searching.{Want, State, Sight, struck, measure_pivot, sight_of, look, survey}
 use Rattle.gnat_theory.specs.Searching.Sight.{passed, seen}

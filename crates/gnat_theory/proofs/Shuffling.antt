@@ -1,8 +1,7 @@
 -- Lists in another order. Assumes nothing.
-use Rattle.std.proofs.Common.{◌≡◌, ℕ, suc, ◌⊎◌, List, [], ◌∷◌, ◌++◌, length, sym, refl, ap, ◌∙◌, subst, inl, inr, ⊎_elim}
-use Rattle.std.specs.List.{AllByRecursion as All}
+use Rattle.std.proofs.Common.{◌≡◌, ℕ, suc, List, [], ◌∷◌, ◌++◌, length, sym, refl, ap, ◌∙◌, subst, inl, inr, ⊎_elim}
+use Rattle.std.specs.List.{AllByRecursion}
 use Rattle.std.proofs.lemmas.List.{append_assoc, append-nil}
-use Rattle.hits.specs.declared.Hit.{Hit}
 use Rattle.hits.specs.Order.{put}
 use Rattle.hits.specs.Samples.{Sample, Among, hit_of, hits}
 use Rattle.hits.proofs.Putting.{put_put}
@@ -53,7 +52,7 @@ module _ {X : Type 0} where
       subst (λ u. Shuffle X u (ys ++ (xs ++ zs))) (append_assoc xs ys zs)
       (subst (Shuffle X ((xs ++ ys) ++ zs)) (append_assoc ys xs zs) (shuffle_before zs (xs ++ ys) (ys ++ xs) (shuffle_parts xs ys)))
 
-  pub all_shuffle : (P : X → Type 0) (xs ys : List X) → Shuffle X xs ys → All P xs → All P ys
+  pub all_shuffle : (P : X → Type 0) (xs ys : List X) → Shuffle X xs ys → AllByRecursion P xs → AllByRecursion P ys
   all_shuffle P _ _ nothing a = a
   all_shuffle P _ _ (after x xs ys s) a = (a.0, all_shuffle P xs ys s a.1)
   all_shuffle P _ _ (swapped x y xs) a = (a.1.0, (a.0, a.1.1))

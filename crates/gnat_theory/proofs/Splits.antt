@@ -1,20 +1,19 @@
 -- Splitting a leaf: which pivots it takes, and what the branch then holds. Assumes nothing.
-use Rattle.std.proofs.Common.{◌≡◌, ℕ, zero, suc, ◌+◌, ◌<◌, ◌≤◌, Bool, true, false, cond, leb, List, [], ◌∷◌, ◌++◌, length, get_or, sym, refl, ap, ◌∙◌, subst, arith, length-append}
+use Rattle.std.proofs.Common.{◌≡◌, ℕ, zero, suc, ◌+◌, ◌<◌, ◌≤◌, leb, List, [], ◌∷◌, ◌++◌, length, get_or, sym, refl, ap, ◌∙◌, subst, arith, length-append}
 use Rattle.std.proofs.lemmas.Bool.{cond_both, leb-true, leb-false}
-use Rattle.std.proofs.lemmas.List.{append_assoc, append-nil}
+use Rattle.std.proofs.lemmas.List.{append_assoc}
 use Rattle.hits.specs.Samples.{Sample}
-use Rattle.gnat_theory.specs.Tree.{Tree, Parts, Pivot, Range, fresh_pivot, pivots, gathered, gathered_parts, always, members}
+use Rattle.gnat_theory.specs.Tree.{Tree, Pivot, fresh_pivot, pivots, gathered, gathered_parts}
 use Rattle.gnat_theory.specs.Tree.Tree.{leaf, branch}
-use Rattle.gnat_theory.specs.Tree.Parts.{none, part}
 use Rattle.gnat_theory.specs.Choice.{first_place, removed}
 use Rattle.gnat_theory.specs.Filing.{filed, filed_all}
 use Rattle.gnat_theory.specs.Splitting.{farther, chosen, bare, split, kept_or_split}
 use Rattle.gnat_theory.specs.Ranges.{ChildFact, Throughout, ThroughoutParts}
 use Rattle.gnat_theory.specs.Shapes.{Branching, BranchingParts, Leaves, LeavesParts}
 use Rattle.gnat_theory.specs.Shuffles.{Shuffle}
-use Rattle.gnat_theory.specs.Shuffles.Shuffle.{after, swapped, in_turn}
+use Rattle.gnat_theory.specs.Shuffles.Shuffle.{in_turn}
 use Rattle.gnat_theory.proofs.Firsts.{first_shuffle}
-use Rattle.gnat_theory.proofs.Shuffling.{same_order, shuffle_equal, shuffle_behind, shuffle_parts, length_shuffle}
+use Rattle.gnat_theory.proofs.Shuffling.{same_order, shuffle_behind, shuffle_parts, length_shuffle}
 use Rattle.gnat_theory.proofs.Filed.{Carries, leaves_more, filed_leaves, filed_all_branching, filed_all_gathered, filed_all_throughout}
 
 module _ {E : Type 0} (dist : E → E → ℕ) where

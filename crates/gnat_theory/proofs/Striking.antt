@@ -1,6 +1,6 @@
 -- A struck child holds no sample within reach. Assumes the laws of the distance.
-use Rattle.std.proofs.Common.{◌≡◌, ℕ, ◌+◌, ◌<◌, ◌≤◌, Bool, true, false, ◌||◌, ltb, ◌⊎◌, List, [], ◌∷◌, ◌++◌, Some, None, Option, sym, refl, ap, ◌∙◌, inl, inr, ⊎_elim, arith}
-use Rattle.std.specs.List.{AllByRecursion as All}
+use Rattle.std.proofs.Common.{◌≡◌, ℕ, ◌+◌, ◌<◌, true, ltb, ◌⊎◌, List, [], ◌∷◌, ◌++◌, Some, None, sym, ap, ◌∙◌, inl, inr, ⊎_elim, arith}
+use Rattle.std.specs.List.{AllByRecursion}
 use Rattle.std.proofs.lemmas.Bool.{ltb-true, or_cases}
 use Rattle.std.proofs.ByRecursion.{All-weaker}
 use Rattle.metric.specs.Laws.{MetricLaws}
@@ -55,20 +55,20 @@ module _ {E : Type 0} (top : ℕ) (dist : E → E → ℕ) (laws : MetricLaws to
   abbrev pub Beyond : (ℕ → Type 0) → Sample E → Type 0
   Beyond Reach s = (R : ℕ) × Reach R × (R < dist q s.element)
 
-  beyond_one : (Reach : ℕ → Type 0) (p : Sample E) (s : Sight) (r : Range) (xs : List (Sample E)) → Tells Reach p s → All (Holds dist p r) xs → strikes s r ≡ true → All (Beyond Reach) xs
+  beyond_one : (Reach : ℕ → Type 0) (p : Sample E) (s : Sight) (r : Range) (xs : List (Sample E)) → Tells Reach p s → AllByRecursion (Holds dist p r) xs → strikes s r ≡ true → AllByRecursion (Beyond Reach) xs
   beyond_one Reach p passed r xs t a e = let z : ◌≡◌ {A = ℕ} 0 1 = cc in absurd (omega arith)
   beyond_one Reach p (seen d None) r xs t a e = let z : ◌≡◌ {A = ℕ} 0 1 = cc in absurd (omega arith)
   beyond_one Reach p (seen d (Some R)) r xs t a e =
       All-weaker (Holds dist p r) (Beyond Reach) (λ x h. (R, t.1, beyond_reach p x r R h (ap (λ z. outside z R r) (sym t.0) ∙ e))) xs a
 
   -- all that a struck child holds is farther than a reach that one of the pivots so far had
-  pub struck_beyond : (Reach : ℕ → Type 0) (ps more : List (Sample E)) (ss : List Sight) (rs : List Range) (xs : List (Sample E)) → Tell Reach ps ss → Fits dist (ps ++ more) rs xs → struck ss rs ≡ true → All (Beyond Reach) xs
+  pub struck_beyond : (Reach : ℕ → Type 0) (ps more : List (Sample E)) (ss : List Sight) (rs : List Range) (xs : List (Sample E)) → Tell Reach ps ss → Fits dist (ps ++ more) rs xs → struck ss rs ≡ true → AllByRecursion (Beyond Reach) xs
   struck_beyond Reach [] more [] rs xs t f e = let z : ◌≡◌ {A = ℕ} 0 1 = cc in absurd (omega arith)
   struck_beyond Reach [] more (s ∷ ss) rs xs t f e = absurd t
   struck_beyond Reach (p ∷ ps) more [] rs xs t f e = absurd t
   struck_beyond Reach (p ∷ ps) more (s ∷ ss) [] xs t f e = absurd f
   struck_beyond Reach (p ∷ ps) more (s ∷ ss) (r ∷ rs) xs t f e = go (struck_beyond Reach ps more ss rs xs t.1 f.1) (or_cases (strikes s r) (struck ss rs) e)
     where
-      go : (struck ss rs ≡ true → All (Beyond Reach) xs) → (strikes s r ≡ true) ⊎ (struck ss rs ≡ true) → All (Beyond Reach) xs
+      go : (struck ss rs ≡ true → AllByRecursion (Beyond Reach) xs) → (strikes s r ≡ true) ⊎ (struck ss rs ≡ true) → AllByRecursion (Beyond Reach) xs
       go ih (inl u) = beyond_one Reach p s r xs t.0 f.0 u
       go ih (inr u) = ih u

@@ -1,6 +1,6 @@
 -- Parts of lists: what stands is a part of a tree's members, and dropping leaves a part of them. Assumes nothing.
-use Rattle.std.proofs.Common.{◌≡◌, ℕ, Bool, true, false, cond, eqb, ◌⊎◌, List, [], ◌∷◌, ◌++◌, sym, refl, ap, subst, inl, inr}
-use Rattle.std.specs.List.{AllByRecursion as All}
+use Rattle.std.proofs.Common.{◌≡◌, ℕ, Bool, true, false, cond, eqb, List, [], ◌∷◌, ◌++◌, sym, refl, subst, inl, inr}
+use Rattle.std.specs.List.{AllByRecursion}
 use Rattle.std.proofs.lemmas.Bool.{cond_both}
 use Rattle.hits.specs.Samples.{Sample, Among}
 use Rattle.index.specs.Meaning.{without}
@@ -27,7 +27,7 @@ module _ {X : Type 0} where
   sub_append us vs _ _ (takes x xs ys t) s = takes x (xs ++ us) (ys ++ vs) (sub_append us vs xs ys t s)
   sub_append us vs _ _ (skips x xs ys t) s = skips x (xs ++ us) (ys ++ vs) (sub_append us vs xs ys t s)
 
-  pub all_sub : (P : X → Type 0) (xs ys : List X) → Sublist X xs ys → All P ys → All P xs
+  pub all_sub : (P : X → Type 0) (xs ys : List X) → Sublist X xs ys → AllByRecursion P ys → AllByRecursion P xs
   all_sub P _ _ ends a = tt
   all_sub P _ _ (takes x xs ys t) a = (a.0, all_sub P xs ys t a.1)
   all_sub P _ _ (skips x xs ys t) a = all_sub P xs ys t a.1

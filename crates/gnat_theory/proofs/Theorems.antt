@@ -1,12 +1,12 @@
 -- The claims. Assumes the laws of the distance, where it says so.
-use Rattle.std.proofs.Common.{◌≡◌, ℕ, suc, ◌+◌, ◌<◌, ◌≤◌, ltb, List, [], ◌∷◌, ◌++◌, length, take, sym, refl, ap, ◌∙◌, subst, arith, length-append}
+use Rattle.std.proofs.Common.{◌≡◌, ℕ, ◌+◌, ◌<◌, ◌≤◌, ltb, List, [], ◌∷◌, ◌++◌, length, take, sym, refl, ap, ◌∙◌, subst, arith, length-append}
 use Rattle.std.proofs.lemmas.Bool.{cond_both, ltb-true}
 use Rattle.std.proofs.lemmas.List.{append_assoc, append-nil}
 use Rattle.metric.specs.Laws.{MetricLaws}
 use Rattle.hits.specs.Order.{inside}
-use Rattle.hits.specs.Samples.{Sample, hits}
+use Rattle.hits.specs.Samples.{Sample}
 use Rattle.index.specs.Meaning.{without}
-use Rattle.gnat_theory.specs.Tree.{Tree, Parts, Pivot, fresh_pivot, gathered, gathered_parts, if_standing, always, standing, members, in_leaves}
+use Rattle.gnat_theory.specs.Tree.{Tree, Parts, gathered_parts, if_standing, always, standing, members, in_leaves}
 use Rattle.gnat_theory.specs.Tree.Tree.{leaf, branch}
 use Rattle.gnat_theory.specs.Tree.Parts.{none, part}
 use Rattle.gnat_theory.specs.Filing.{filed_all}
@@ -15,14 +15,14 @@ use Rattle.gnat_theory.specs.Splitting.{kept_or_split, grown}
 use Rattle.gnat_theory.specs.Rebuilding.{rebuilt, made_room, extended}
 use Rattle.gnat_theory.specs.Dropping.{shrunk}
 use Rattle.gnat_theory.specs.Ranges.{ChildFact, Throughout, RangesFit, RangesTight, OwnNearest}
-use Rattle.gnat_theory.specs.Shapes.{Branching, Leaves, pivot_count, part_count}
+use Rattle.gnat_theory.specs.Shapes.{Branching, part_count}
 use Rattle.gnat_theory.specs.Shuffles.{Shuffle}
 use Rattle.gnat_theory.specs.Shuffles.Shuffle.{nothing, after, in_turn}
 use Rattle.gnat_theory.specs.Rules.{SplitsRoomily}
 use Rattle.gnat_theory.specs.Keeping.{Files, Grows, Shrinks, Rebuilds, Extends, AlwaysKeepsTree, RowsCounted}
 use Rattle.gnat_theory.specs.Finding.{OutsideIsBeyond, SearchExact, AlwaysBounded}
 use Rattle.gnat_theory.proofs.Shuffling.{shuffle_back, shuffle_equal, shuffle_front, length_shuffle, hits_shuffle}
-use Rattle.gnat_theory.proofs.Filed.{Carries, fit_carries, tight_carries, nearest_carries, filed_branching, filed_gathered, filed_throughout, filed_leaves, filed_all_branching, filed_all_gathered, filed_all_throughout}
+use Rattle.gnat_theory.proofs.Filed.{Carries, fit_carries, tight_carries, nearest_carries, filed_branching, filed_gathered, filed_throughout, filed_leaves, filed_all_gathered, filed_all_throughout}
 use Rattle.gnat_theory.proofs.Splits.{split_in_leaves, grown_branching, grown_leaves, grown_gathered, grown_throughout}
 use Rattle.gnat_theory.proofs.Drops.{fit_fewer, nearest_fewer, without_shuffle, without_fewer, shrunk_standing, shrunk_in_leaves, shrunk_count, shrunk_throughout, shrunk_branching, shrunk_leaves}
 use Rattle.gnat_theory.proofs.Striking.{beyond_reach}

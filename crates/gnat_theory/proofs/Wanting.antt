@@ -1,6 +1,6 @@
 -- What the two wants keep of all the hits. Assumes nothing.
-use Rattle.std.proofs.Common.{◌≡◌, ℕ, zero, suc, ◌<◌, ◌≤◌, Bool, true, false, cond, leb, List, [], ◌∷◌, take, Some, None, Option, sym, refl, ap, ◌∙◌, arith}
-use Rattle.std.specs.List.{AllByRecursion as All}
+use Rattle.std.proofs.Common.{◌≡◌, ℕ, zero, suc, ◌<◌, ◌≤◌, false, cond, leb, List, [], ◌∷◌, take, Some, sym, refl, ap, ◌∙◌, arith}
+use Rattle.std.specs.List.{AllByRecursion}
 use Rattle.std.proofs.lemmas.Bool.{cond_both, leb-true, leb-false}
 use Rattle.std.proofs.ByRecursion.{All-weaker}
 use Rattle.hits.specs.declared.Hit.{Hit}
@@ -16,7 +16,7 @@ pub record Keeps (w : Want) (result : List Hit → List Hit) : Type 0 where
   pub one_more : (h : Hit) (hs : List Hit) → Sorted hs → w.keep h (result hs) ≡ result (put h hs)
   pub beyond : (hs : List Hit) (R : ℕ) → Sorted hs → w.reach (result hs) ≡ Some R → (h : Hit) → R < h.distance → result (put h hs) ≡ result hs
 
-kth_at_least : (d k R : ℕ) (hs : List Hit) → All (λ x. d ≤ x.distance) hs → kth k (take k hs) ≡ Some R → d ≤ R
+kth_at_least : (d k R : ℕ) (hs : List Hit) → AllByRecursion (λ x. d ≤ x.distance) hs → kth k (take k hs) ≡ Some R → d ≤ R
 kth_at_least d zero R hs a e = let z : ◌≡◌ {A = ℕ} 0 1 = cc in absurd (omega arith)
 kth_at_least d (suc k) R [] a e = let z : ◌≡◌ {A = ℕ} 0 1 = cc in absurd (omega arith)
 kth_at_least d (suc zero) R (h ∷ hs) a e = let z : h.distance ≡ R = cc in omega (arith, a.0)

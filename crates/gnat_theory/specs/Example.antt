@@ -7,13 +7,13 @@
 -- farthest from it. Sample 3 is nearer to pivot 1. So pivot 1's range to its own child holds 0 and 4, and pivot 2's range
 -- to that child holds 10 and 6. A search for the nearest of 11 measures both pivots, 11 and 1 away. With 1 as its reach
 -- pivot 2 strikes the child of pivot 1: nothing there is nearer than 6 to pivot 2.
-use Rattle.std.specs.Prelude.{◌≡◌, ℕ, ◌+◌, ◌-◌, false, List, [], ◌∷◌}
+use Rattle.std.specs.Prelude.{◌≡◌, ℕ, ◌+◌, ◌-◌, false, [], ◌∷◌}
 use Rattle.hits.specs.Samples.{Sample}
 use Rattle.gnat_theory.specs.Tree.{Tree, Range}
 use Rattle.gnat_theory.specs.Tree.Tree.{leaf, branch}
 use Rattle.gnat_theory.specs.Tree.Parts.{none, part}
 use Rattle.gnat_theory.specs.Rebuilding.{rebuilt}
-use Rattle.gnat_theory.specs.Searching.{State, start, nearest_hits, searched}
+use Rattle.gnat_theory.specs.Searching.{start, nearest_hits, searched}
 
 abbrev pub along : ℕ → ℕ → ℕ
 along a b = (a - b) + (b - a)

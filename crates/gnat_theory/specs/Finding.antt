@@ -1,6 +1,6 @@
 -- What the search of a tree finds, and what it costs.
 use Rattle.std.specs.Prelude.{◌≡◌, ℕ, suc, ◌<◌, ◌≤◌, true, List, [], ◌∷◌, ◌++◌, length, take, Some}
-use Rattle.std.specs.List.{AllByRecursion as All}
+use Rattle.std.specs.List.{AllByRecursion}
 use Rattle.hits.specs.Order.{inside}
 use Rattle.hits.specs.Samples.{Sample, Among, hits}
 use Rattle.gnat_theory.specs.Tree.{Tree, Parts, Range, sample_of, members}
@@ -25,7 +25,7 @@ module _ {E : Type 0} (dist : E → E → ℕ) where
   -- of each part that is struck, the pivot and all that is below it
   abbrev pub StruckBeyond : E → List Sight → Parts E → Type 0
   StruckBeyond q ss none = Unit {0}
-  StruckBeyond q ss (part p column t rest) = (struck ss column ≡ true → All (BeyondOneOf q ss) (sample_of p ∷ members t)) × StruckBeyond q ss rest
+  StruckBeyond q ss (part p column t rest) = (struck ss column ≡ true → AllByRecursion (BeyondOneOf q ss) (sample_of p ∷ members t)) × StruckBeyond q ss rest
 
   -- a struck child holds no sample within the reach that the search had
   abbrev pub StruckOutOfReach : Type 0

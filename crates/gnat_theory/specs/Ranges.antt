@@ -1,6 +1,6 @@
 -- What holds of a tree's ranges, and where its samples lie.
 use Rattle.std.specs.Prelude.{◌≡◌, ℕ, suc, ◌≤◌, List, [], ◌∷◌}
-use Rattle.std.specs.List.{AllByRecursion as All}
+use Rattle.std.specs.List.{AllByRecursion}
 use Rattle.hits.specs.Samples.{Sample, Among}
 use Rattle.gnat_theory.specs.Tree.{Tree, Parts, Range, sample_of, pivots, members}
 use Rattle.gnat_theory.specs.Tree.Tree.{leaf, branch}
@@ -33,7 +33,7 @@ module _ {E : Type 0} (dist : E → E → ℕ) where
   Fits [] [] xs = Unit {0}
   Fits [] (r ∷ rs) xs = ⊥
   Fits (p ∷ ps) [] xs = ⊥
-  Fits (p ∷ ps) (r ∷ rs) xs = All (Holds p r) xs × Fits ps rs xs
+  Fits (p ∷ ps) (r ∷ rs) xs = AllByRecursion (Holds p r) xs × Fits ps rs xs
 
   -- one of these samples is at this distance from the pivot p
   abbrev pub Attained : Sample E → ℕ → List (Sample E) → Type 0
@@ -54,7 +54,7 @@ module _ {E : Type 0} (dist : E → E → ℕ) where
 
   -- the child's own pivot is the nearest to all below it, the earlier one if equal
   abbrev pub OwnNearest : ChildFact E
-  OwnNearest all j column p xs = All (λ s. nearest (distances dist all s) ≡ j) xs
+  OwnNearest all j column p xs = AllByRecursion (λ s. nearest (distances dist all s) ≡ j) xs
 
   -- every range holds the distances that it speaks of
   abbrev pub Ranged : Tree E → Type 0

@@ -1,6 +1,6 @@
 -- The rules by which filing and splitting choose, as relations.
 use Rattle.std.specs.Prelude.{◌≡◌, ℕ, suc, ◌+◌, ◌*◌, ◌<◌, ◌≤◌, ◌⊎◌, List, [], ◌∷◌, ◌++◌, length, filter, nat_eq, slice_index}
-use Rattle.std.specs.List.{AllByRecursion as All}
+use Rattle.std.specs.List.{AllByRecursion}
 use Rattle.hits.specs.Samples.{Sample}
 use Rattle.gnat_theory.specs.Tree.{Tree, Parts, pivots, in_leaves}
 use Rattle.gnat_theory.specs.Tree.Tree.{leaf, branch}
@@ -37,7 +37,7 @@ module _ {E : Type 0} (dist : E → E → ℕ) where
   -- After the pivots ps, `more` are taken out of xs one after the other, none of those left ever better, and the others stay.
   abbrev pub Chooses : List (Sample E) → List (Sample E) → List (Sample E) → List (Sample E) → Type 0
   Chooses ps [] xs others = xs ≡ others
-  Chooses ps (p ∷ more) xs others = (rest : List (Sample E)) × TakenOut p xs rest × All (NoBetter ps p) rest × Chooses (ps ++ (p ∷ [])) more rest others
+  Chooses ps (p ∷ more) xs others = (rest : List (Sample E)) × TakenOut p xs rest × AllByRecursion (NoBetter ps p) rest × Chooses (ps ++ (p ∷ [])) more rest others
 
   -- What a split leaves: `degree` pivots chosen by the rule, the others in leaves under their nearest pivot, in their
   -- order, and ranges that hold all distances and could not be narrower.

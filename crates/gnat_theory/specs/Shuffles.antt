@@ -1,6 +1,6 @@
 -- Lists of the same things, each as often, in any order.
-use Rattle.std.specs.Prelude.{◌≡◌, List, [], ◌∷◌, ◌≢◌}
-use Rattle.std.specs.List.{AllByRecursion as All}
+use Rattle.std.specs.Prelude.{List, [], ◌∷◌, ◌≢◌}
+use Rattle.std.specs.List.{AllByRecursion}
 use Rattle.hits.specs.Samples.{Sample}
 
 pub data Shuffle (X : Type 0) : List X → List X → Type 0 where
@@ -12,4 +12,4 @@ pub data Shuffle (X : Type 0) : List X → List X → Type 0 where
 -- no two samples have one number
 abbrev pub Apart : {E : Type 0} → List (Sample E) → Type 0
 Apart [] = Unit {0}
-Apart (x ∷ xs) = All (λ y. x.number ≢ y.number) xs × Apart xs
+Apart (x ∷ xs) = AllByRecursion (λ y. x.number ≢ y.number) xs × Apart xs

@@ -1,24 +1,23 @@
 -- What a survey says of islands and routes. Assumes nothing.
-use Rattle.std.proofs.Common.{◌≡◌, ℕ, ◌+◌, ◌-◌, ◌*◌, ◌/◌, ◌%◌, ◌<◌, ◌≤◌, ◌⊎◌, List, [], ◌∷◌, ◌++◌, map, length, get_or, take, drop, sym, refl, ap, ◌∙◌, subst, inl, inr, arith, length-append, length-drop, length-take}
+use Rattle.std.proofs.Common.{◌≡◌, ℕ, ◌+◌, ◌-◌, ◌*◌, ◌/◌, ◌%◌, ◌<◌, ◌≤◌, ◌⊎◌, List, [], ◌∷◌, ◌++◌, map, length, get_or, take, drop, sym, ap, ◌∙◌, subst, inl, inr, arith}
 use borrow.Rule.Slice.PartMut.{put_mid}
-use Rattle.std.specs.List.{AllByRecursion as All}
-use Rattle.std.proofs.lemmas.List.{take_all, length-map, get_or_default, take_at, drop_at, drop_all, take-append-le}
+use Rattle.std.specs.List.{AllByRecursion}
+use Rattle.std.proofs.lemmas.List.{take_all, length-map, get_or_default, take_at, drop_at}
 use Rattle.std.proofs.lemmas.Bool.{cases_lt}
-use Rattle.hits.specs.Samples.{Among}
 use Rattle.hits.specs.Lists.{over}
 use Rattle.chains.specs.declared.Edge.{Edge}
-use Rattle.chains.specs.Chains.{Starts, Joins, Joined, Island, Route}
+use Rattle.chains.specs.Chains.{Starts, Joined, Island, Route}
 use Rattle.chains.specs.Edges.{Linked, Inside, renamed}
-use Rattle.chains.specs.Costs.{none, cost_at, Settled}
+use Rattle.chains.specs.Costs.{none, cost_at}
 use Rattle.chains.proofs.Settling as settling
-use Rattle.chains.proofs.Joining.{joined_back, joins_start, joins_end, chain_all}
+use Rattle.chains.proofs.Joining.{joined_back, chain_all}
 use Rattle.chains.proofs.Moving.{Renames, island_moved, route_moved, joined_fro}
 use Rattle.chains.proofs.Places.{places_renamed}
 use Rattle.routing.specs.Walks.{Walked, First}
 use Rattle.routing.proofs.Existing.{chosen_from}
-use Rattle.index.specs.Outcomes.{Outcome, gives, refuses}
+use Rattle.index.specs.Outcomes.{gives, refuses}
 use Rattle.links.specs.declared.Links.{Links}
-use Rattle.links.specs.Records.{numbers, number_at, Good, Resolved, edges_among, edges_of}
+use Rattle.links.specs.Records.{numbers, number_at, Good, edges_among, edges_of}
 use Rattle.links.proofs.Resolving.{number_is}
 use Rattle.graph.specs.Routes.{Standing, Routed, apart, too_short, written}
 use Rattle.graph.specs.Surveys.{Surveyed, Somewhere, FirstNumber}
@@ -46,11 +45,11 @@ module _ (links : List Links) (good : Good links) (goal : ℕ) (edges : List Edg
   pub few : length costs ≤ 1024
   few = omega (arith, s.long, good.few)
 
-  pub inside : All (Inside (length costs)) (take n edges)
-  inside = (let P : ℕ → Type 0 = λ k. All (Inside k) (take n edges) in subst P (sym s.long) s.resolved.inside)
+  pub inside : AllByRecursion (Inside (length costs)) (take n edges)
+  inside = (let P : ℕ → Type 0 = λ k. AllByRecursion (Inside k) (take n edges) in subst P (sym s.long) s.resolved.inside)
 
-  inside' : All (Inside (length (numbers links))) (take n edges)
-  inside' = (let P : ℕ → Type 0 = λ k. All (Inside k) (take n edges) in subst P (sym many) s.resolved.inside)
+  inside' : AllByRecursion (Inside (length (numbers links))) (take n edges)
+  inside' = (let P : ℕ → Type 0 = λ k. AllByRecursion (Inside k) (take n edges) in subst P (sym many) s.resolved.inside)
 
   named : map (renamed (number_at links)) (take n edges) ≡ edges_of links
   named = s.resolved.named ∙ ap (edges_among (numbers links)) (take_all (length links) links (omega arith))
@@ -181,10 +180,10 @@ module _ (links : List Links) (good : Good links) (goal : ℕ) (edges : List Edg
       behind = ap (drop (k - 0)) w.writes ∙ drop_at w.numbers (drop (length w.numbers) list) (k - 0) (omega (arith, says.count))
 
       -- the walk's places are all records'
-      pub walked_inside : All (λ at. at < length links) (take (k - 0) (drop 0 middle))
+      pub walked_inside : AllByRecursion (λ at. at < length links) (take (k - 0) (drop 0 middle))
       walked_inside =
-          let P : List ℕ → Type 0 = λ z. All (λ at. at < length links) z in
-          let Q : ℕ → Type 0 = λ z. All (λ at. at < z) w.numbers in
+          let P : List ℕ → Type 0 = λ z. AllByRecursion (λ at. at < length links) z in
+          let Q : ℕ → Type 0 = λ z. AllByRecursion (λ at. at < z) w.numbers in
           subst P (sym front) (subst Q s.long (chain_all (λ i. i < length costs) (Linked (take n edges)) ends w.numbers w.long w.route.joins.chain))
 
       pub routed_written : (named' : List ℕ) → k ≤ length list → named' ≡ map (number_at links) (take (k - 0) (drop 0 middle)) → Routed (Standing links) (Linked (edges_of links)) (number_at links start) (number_at links goal) list (gives (get_or costs start 0 / 65536, k)) (put_mid 0 (k - 0) middle named')

@@ -11,7 +11,7 @@ use Rattle.roadmap.specs.Calls.{IslandTold, RouteTold}
 use Rattle.history.specs.declared.Call.{Call}
 use Rattle.history.specs.declared.Call.TheVariants as call
 use Rattle.history.specs.declared.Answer.{Answer}
-use Rattle.history_theory.specs.History.{Reply, nears, withins, names, leads, Lists, no_list, hit_list, number_list, reply_of}
+use Rattle.history_theory.specs.History.{nears, withins, names, leads, no_list, hit_list, number_list, reply_of}
 use Rattle.history.specs.Turns.{Lent, lent, reply, Does, Runs, final, Ran}
 
 -- the first places of a list, as many as there are

@@ -1,7 +1,6 @@
 -- Two runs that ask the same are the same. Assumes nothing.
 use Rattle.std.proofs.Common.{◌≡◌, ℕ, Bool, List, [], ◌∷◌, sym, refl, ap, ◌∙◌, subst}
 use mathlib.Core.Path.{fun_ext}
-use Rattle.index.specs.Outcomes.{gives}
 use Rattle.history.specs.declared.Call.{Call}
 use Rattle.history.specs.declared.Answer.{Answer}
 use Rattle.history_theory.specs.History.{Asked, asks_add, History, then_asks, Gives}

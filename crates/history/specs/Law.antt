@@ -1,6 +1,5 @@
 -- The law over histories: what is owed of every turn of a run, and of two runs of one history.
 use Rattle.std.specs.Prelude.{◌≡◌, ℕ, ◌<◌, ◌≤◌, Bool, ◌⊎◌, List, [], ◌∷◌, Ok, Err, Result, ◌≢◌}
-use Rattle.chains.specs.Chains.{Island, Route}
 use Rattle.history.specs.declared.Call.{Call}
 use Rattle.history.specs.declared.Call.TheVariants as call
 use Rattle.history.specs.declared.Answer.{Answer}

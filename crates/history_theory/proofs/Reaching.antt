@@ -5,7 +5,6 @@ use Rattle.hits.specs.Samples.{Among}
 use Rattle.chains.specs.Edges.{edge, Linked}
 use Rattle.chains.proofs.Moving.{Same}
 use Rattle.index.specs.Meaning.{Meaning, Lawful, fresh, element_at}
-use Rattle.graph.specs.Routes.{apart}
 use Rattle.roadmap.specs.Roads.{Road, Stands}
 use Rattle.history_theory.specs.History.{Asked, History, samples, start, then_asks, Brought, Admits, Pair, distance_of}
 use Rattle.history_theory.proofs.Owes.{Even}

@@ -1,5 +1,5 @@
 -- The outcome of each call, cause by cause. Assumes nothing.
-use Rattle.std.proofs.Common.{◌≡◌, ℕ, ◌+◌, ◌<◌, ◌≤◌, min, Bool, true, false, cond, ◌||◌, eqb, ltb, List, [], ◌∷◌, length, take, Some, None, Option, sym, refl, ap, ◌∙◌, ⊎_elim, arith, le-ltb, eq-eqb, ne_eqb}
+use Rattle.std.proofs.Common.{◌≡◌, ℕ, ◌+◌, ◌<◌, ◌≤◌, Bool, true, false, cond, ◌||◌, eqb, ltb, List, [], ◌∷◌, length, take, Some, None, sym, ap, ◌∙◌, ⊎_elim, arith, le-ltb, eq-eqb, ne_eqb}
 use Rattle.std.proofs.lemmas.List.{take_all}
 use Rattle.std.proofs.lemmas.Bool.{cases_lt}
 use Rattle.hits.specs.declared.Hit.{Hit}
@@ -8,7 +8,7 @@ use Rattle.hits.specs.Samples.{hits}
 use Rattle.hits.proofs.Ranking.{length_hits}
 use Rattle.index.specs.Meaning.{Meaning, added, dropped, element_at}
 use Rattle.index.specs.Outcomes.{Outcome, gives, refuses, room_outcome, given_room}
-use Rattle.index.specs.Calls.{bad_count, room_of, add_outcome, add_leaves_at, add_leaves, standing_outcome, drop_outcome, drop_leaves_at, drop_leaves, element_outcome, near_count, near_outcome, near_hits, near_list}
+use Rattle.index.specs.Calls.{bad_count, room_of, add_outcome, add_leaves_at, add_leaves, standing_outcome, drop_leaves_at, drop_leaves, near_count, near_outcome, near_hits, near_list}
 
 given_not_refused : (n : ℕ) (figures : List ℕ) → ◌≡◌ {A = Outcome Unit} (gives tt) (refuses n figures) → ⊥
 given_not_refused n figures i = let z : ◌≡◌ {A = ℕ} 0 1 = cc in omega arith

@@ -1,5 +1,5 @@
 -- What an index means, and what it owes in every state.
-use Rattle.std.specs.Prelude.{ℕ, ◌+◌, ◌≤◌, Bool, cond, List, [], ◌∷◌, ◌++◌, length, Some, None, Option, ◌==◌}
+use Rattle.std.specs.Prelude.{ℕ, ◌+◌, ◌≤◌, cond, List, [], ◌∷◌, ◌++◌, length, Some, None, Option, ◌==◌}
 use Rattle.hits.specs.Samples.{Sample, Rising}
 
 -- how many samples it can hold, the last number given, and the standing samples by rising number

@@ -1,8 +1,8 @@
 -- A file is accepted exactly if it is the text of a level.
-use Rattle.std.proofs.Common.{◌≡◌, ℕ, ◌<◌, ◌≤◌, Bool, true, false, cond, leb, List, [], ◌∷◌, length, sym, refl, ap, ◌∙◌, subst, arith, le-leb, leb-true}
+use Rattle.std.proofs.Common.{◌≡◌, ℕ, Bool, true, false, cond, leb, List, [], length, sym, refl, ap, ◌∙◌, subst, arith, le-leb, leb-true}
 use Rattle.index.specs.Outcomes.{Outcome, gives, refuses}
 use Rattle.level_theory.specs.Words.{pieces_of}
-use Rattle.level_theory.specs.Levels.{Level, Valid}
+use Rattle.level_theory.specs.Levels.{Level}
 use Rattle.level_theory.specs.Texts.{joined, level_lines, lines_of, text_of}
 use Rattle.level_theory.specs.Reading.{at_header, Progress, progress, nothing_read, start_reading, read_lines, reading}
 use Rattle.level_theory.specs.Accepting.{IsText, AcceptsExactly}

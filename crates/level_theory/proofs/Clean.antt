@@ -1,10 +1,10 @@
 -- The words of a level's lines have no space and no newline.
-use Rattle.std.proofs.Common.{◌≡◌, ℕ, zero, suc, ◌^◌, ◌<◌, ◌≤◌, Bool, true, false, ◌&&◌, eqb, leb, List, [], ◌∷◌, ◌++◌, map, length, codes, decimal, refl, arith, lit<, lit≤, ne_eqb, leb-true}
-use Rattle.std.specs.List.{AllByRecursion as All}
+use Rattle.std.proofs.Common.{◌≡◌, ℕ, ◌^◌, ◌<◌, ◌≤◌, true, leb, List, [], ◌∷◌, ◌++◌, map, length, codes, decimal, refl, arith, lit<, lit≤, ne_eqb, leb-true}
+use Rattle.std.specs.List.{AllByRecursion}
 use Rattle.std.proofs.lemmas.Fmt.{digits_decimal}
 use Rattle.level_theory.specs.Words.{digit, all_bytes}
-use Rattle.level_theory.specs.Levels.{Kind, arms, cards, Form, form_of, LineCall, call_add, call_drop, call_near, call_within, call_island, call_route, Level, NumbersFit, CallFits}
-use Rattle.level_theory.specs.Texts.{joined, spaced, kind_word, call_words, count_words}
+use Rattle.level_theory.specs.Levels.{Kind, arms, cards, form_of, LineCall, call_add, call_drop, call_near, call_within, call_island, call_route, Level, CallFits}
+use Rattle.level_theory.specs.Texts.{spaced, kind_word, call_words}
 use Rattle.level_theory.specs.Reading.{Stage, Progress}
 use Rattle.level_theory.proofs.Numbers.{own, and_both}
 use Rattle.level_theory.proofs.Cutting.{Without, SomePiece}
@@ -22,7 +22,7 @@ digits_without c (b ∷ w) h e =
 decimal_without : (c n : ℕ) → c < 48 → n < 2 ^ 64 → Without c (decimal n)
 decimal_without c n h s = digits_without c (decimal n) h (digits_decimal own n s)
 
-numbers_without : (c largest : ℕ) (ns : List ℕ) → c < 48 → largest < 2 ^ 64 → All (λ n. n ≤ largest) ns → All (Without c) (map decimal ns)
+numbers_without : (c largest : ℕ) (ns : List ℕ) → c < 48 → largest < 2 ^ 64 → AllByRecursion (λ n. n ≤ largest) ns → AllByRecursion (Without c) (map decimal ns)
 numbers_without c largest [] h s f = tt
 numbers_without c largest (n ∷ ns) h s f = (decimal_without c n h (omega (arith, f.0)), numbers_without c largest ns h s f.1)
 
@@ -31,14 +31,14 @@ some_numbers [] h = absurd (omega arith)
 some_numbers (n ∷ ns) h = tt
 
 -- a word followed by numbers
-spoken : (w : List ℕ) (ns : List ℕ) (largest : ℕ) → Without 32 w → Without 10 w → largest < 2 ^ 64 → All (λ n. n ≤ largest) ns → Clean (w ∷ map decimal ns)
+spoken : (w : List ℕ) (ns : List ℕ) (largest : ℕ) → Without 32 w → Without 10 w → largest < 2 ^ 64 → AllByRecursion (λ n. n ≤ largest) ns → Clean (w ∷ map decimal ns)
 spoken w ns largest a b s f = record {
   some = tt;
   spaces = (a, numbers_without 32 largest ns (lit< tt) s f);
   newlines = (b, numbers_without 10 largest ns (lit< tt) s f);
 }
 
-weaker : (small large : ℕ) (ns : List ℕ) → small ≤ large → All (λ n. n ≤ small) ns → All (λ n. n ≤ large) ns
+weaker : (small large : ℕ) (ns : List ℕ) → small ≤ large → AllByRecursion (λ n. n ≤ small) ns → AllByRecursion (λ n. n ≤ large) ns
 weaker small large [] h f = tt
 weaker small large (n ∷ ns) h f = (omega (arith, f.0), weaker small large ns h f.1)
 
@@ -73,7 +73,7 @@ step_clean stage level ws p (step_wall level' n wall f) = record {
 step_clean stage level ws p (step_call_count level' n h) = spoken (codes "calls") (n ∷ []) 512 (refl, (refl, (refl, (refl, (refl, tt))))) (refl, (refl, (refl, (refl, (refl, tt))))) (lit< tt) (h, tt)
 step_clean stage level ws p (step_call level' n call f) = call_clean level.kind call f
 
-pub remains_clean : (stage : Stage) (level : Level) (lss : List (List (List ℕ))) (all : Level) → Remains stage level lss all → All Clean lss
+pub remains_clean : (stage : Stage) (level : Level) (lss : List (List (List ℕ))) (all : Level) → Remains stage level lss all → AllByRecursion Clean lss
 remains_clean stage level lss all (no_more level') = tt
 remains_clean stage level lss all (one_more stage' level' ws p rest all' s r) = (step_clean stage level ws p s, remains_clean p.stage p.level rest all r)
 
@@ -81,11 +81,11 @@ without_append : (c : ℕ) (v w : List ℕ) → Without c v → Without c w → 
 without_append c [] w h k = k
 without_append c (b ∷ v) w h k = (h.0, without_append c v w h.1 k)
 
-spaced_without : (ws : List (List ℕ)) → All (Without 10) ws → Without 10 (spaced ws)
+spaced_without : (ws : List (List ℕ)) → AllByRecursion (Without 10) ws → Without 10 (spaced ws)
 spaced_without [] h = tt
 spaced_without (w ∷ []) h = h.0
 spaced_without (w ∷ (v ∷ ws)) h = without_append 10 w (32 ∷ spaced (v ∷ ws)) h.0 (refl, spaced_without (v ∷ ws) h.1)
 
-pub clean_lines : (lss : List (List (List ℕ))) → All Clean lss → All (λ ws. Without 10 (spaced ws)) lss
+pub clean_lines : (lss : List (List (List ℕ))) → AllByRecursion Clean lss → AllByRecursion (λ ws. Without 10 (spaced ws)) lss
 clean_lines [] h = tt
 clean_lines (ws ∷ lss) h = (spaced_without ws h.0.newlines, clean_lines lss h.1)

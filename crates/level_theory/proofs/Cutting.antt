@@ -1,11 +1,11 @@
 -- Cutting a text at a byte, and joining its pieces.
-use Rattle.std.proofs.Common.{◌≡◌, ℕ, Bool, true, false, cond, eqb, List, [], ◌∷◌, ◌++◌, map, sym, refl, ap, ◌∙◌, subst, append_assoc, eq-eqb, eqb-true}
-use Rattle.std.specs.List.{AllByRecursion as All}
+use Rattle.std.proofs.Common.{◌≡◌, ℕ, Bool, true, false, cond, eqb, List, [], ◌∷◌, ◌++◌, map, sym, refl, ap, ◌∙◌, append_assoc, eq-eqb, eqb-true}
+use Rattle.std.specs.List.{AllByRecursion}
 use Rattle.level_theory.specs.Words.{onto, split}
-use Rattle.level_theory.specs.Texts.{joined, spaced, line_of, lines_of}
+use Rattle.level_theory.specs.Texts.{joined, spaced, lines_of}
 
 abbrev pub Without : ℕ → List ℕ → Type 0
-Without c w = All (λ b. eqb b c ≡ false) w
+Without c w = AllByRecursion (λ b. eqb b c ≡ false) w
 
 abbrev pub SomePiece : List (List ℕ) → Type 0
 SomePiece [] = ⊥
@@ -50,13 +50,13 @@ pub split_last : (c : ℕ) (w : List ℕ) → Without c w → split c w ≡ w �
 split_last c [] h = refl
 split_last c (b ∷ w) h = rw (h.0, split_last c w h.1) refl
 
-pub split_joined : (c : ℕ) (ws : List (List ℕ)) → SomePiece ws → All (Without c) ws → split c (joined c ws) ≡ ws
+pub split_joined : (c : ℕ) (ws : List (List ℕ)) → SomePiece ws → AllByRecursion (Without c) ws → split c (joined c ws) ≡ ws
 split_joined c [] s h = absurd s
 split_joined c (w ∷ []) s h = split_last c w h.0
 split_joined c (w ∷ (v ∷ ws)) s h = split_append c w (joined c (v ∷ ws)) h.0 ∙ ap (λ x. w ∷ x) (split_joined c (v ∷ ws) tt h.1)
 
 -- lines and what follows the last
-pub split_lines : (lss : List (List (List ℕ))) → All (λ ws. Without 10 (spaced ws)) lss → split 10 (lines_of lss) ≡ map spaced lss ++ ([] ∷ [])
+pub split_lines : (lss : List (List (List ℕ))) → AllByRecursion (λ ws. Without 10 (spaced ws)) lss → split 10 (lines_of lss) ≡ map spaced lss ++ ([] ∷ [])
 split_lines [] h = refl
 split_lines (ws ∷ rest) h =
     ap (split 10) (append_assoc (spaced ws) (10 ∷ []) (lines_of rest)) ∙ (split_append 10 (spaced ws) (lines_of rest) h.0 ∙ ap (λ x. spaced ws ∷ x) (split_lines rest h.1))

@@ -1,11 +1,11 @@
 -- The figures of a fault are small.
-use Rattle.std.proofs.Common.{◌≡◌, ℕ, zero, suc, ◌+◌, ◌^◌, ◌<◌, ◌≤◌, Bool, true, false, cond, ◌&&◌, eqb, leb, List, [], ◌∷◌, ◌++◌, length, get_or, Some, None, codes, Option, sym, refl, ap, ◌∙◌, subst, arith, lit<, lit≤, leb-true}
-use Rattle.std.specs.List.{AllByRecursion as All}
+use Rattle.std.proofs.Common.{◌≡◌, ℕ, zero, suc, ◌+◌, ◌≤◌, Bool, true, false, cond, ◌&&◌, eqb, leb, List, [], ◌∷◌, ◌++◌, length, get_or, Some, None, codes, Option, refl, arith, lit<, lit≤, leb-true}
+use Rattle.std.specs.List.{AllByRecursion}
 use Rattle.index.specs.Outcomes.{Outcome, gives, refuses}
-use Rattle.gnat.specs.Chosen.{outside, settings_outcome}
+use Rattle.gnat.specs.Chosen.{outside}
 use Rattle.level_theory.specs.Words.{onto, split, words_of, pieces_of, same_bytes, number_word, Want, the_word, a_number, Taken, right, wrong, with_number, take_words}
 use Rattle.level_theory.specs.Levels.{Kind, arms, cards, Form, form_of, LineCall, Level, neighbours_outcome, then_neighbours, header_outcome}
-use Rattle.level_theory.specs.Reading.{Stage, at_header, at_wall_count, at_walls, at_call_count, at_calls, at_end, walls_left, calls_left, number_wants, setting_wants, count_wants, Letter, adds, drops, nears, withins, islands, routes, no_call, letter_of, call_wants, call_of, formed, carried, header_level, header_of, read_header, read_call_at, read_call, level_with, Progress, progress, then_level, then_call, read_line, read_rest, read_lines, start_reading, reading}
+use Rattle.level_theory.specs.Reading.{Stage, at_header, at_wall_count, at_walls, at_call_count, at_calls, at_end, walls_left, calls_left, number_wants, setting_wants, count_wants, Letter, adds, drops, nears, withins, islands, routes, no_call, letter_of, call_wants, call_of, formed, carried, header_of, read_header, read_call_at, read_call, level_with, Progress, progress, then_level, then_call, read_line, read_rest, read_lines, start_reading, reading}
 use Rattle.level_theory.specs.Accepting.{SmallTold}
 use Rattle.level_theory.proofs.Wanted.{Meets, taken_is}
 
@@ -139,7 +139,7 @@ read_rest_small (at_calls n) line level rest l = no_line Level line l
 read_rest_small at_end line level [] l = tt
 read_rest_small at_end line level (b ∷ bs) l = no_line Level line l
 
-lines_small : (o : Outcome Progress) (line : ℕ) (pieces : List (List ℕ)) → SmallTold o → line + length pieces ≤ 65538 → All (λ p. length p ≤ 65536) pieces → SmallTold (read_lines o line pieces)
+lines_small : (o : Outcome Progress) (line : ℕ) (pieces : List (List ℕ)) → SmallTold o → line + length pieces ≤ 65538 → AllByRecursion (λ p. length p ≤ 65536) pieces → SmallTold (read_lines o line pieces)
 lines_small (refuses n figures) line pieces s h f = s
 lines_small (gives p) line [] s h f = no_line Level line (omega arith)
 lines_small (gives p) line (rest ∷ []) s h f = read_rest_small p.stage line p.level rest (omega arith)
@@ -149,23 +149,23 @@ lines_small (gives p) line (l ∷ (m ∷ ms)) s h f =
     (omega arith) f.1
 
 -- each piece is no longer than the text
-short_pieces : (c : ℕ) (bs : List ℕ) → All (λ p. length p ≤ length bs) (split c bs)
+short_pieces : (c : ℕ) (bs : List ℕ) → AllByRecursion (λ p. length p ≤ length bs) (split c bs)
 short_pieces c [] = (omega arith, tt)
 short_pieces c (b ∷ bs) = go (eqb b c) (short_pieces c bs)
   where
-    longer : (ws : List (List ℕ)) → All (λ p. length p ≤ length bs) ws → All (λ p. length p ≤ suc (length bs)) ws
+    longer : (ws : List (List ℕ)) → AllByRecursion (λ p. length p ≤ length bs) ws → AllByRecursion (λ p. length p ≤ suc (length bs)) ws
     longer [] f = tt
     longer (w ∷ ws) f = (omega (arith, f.0), longer ws f.1)
 
-    begun : (ws : List (List ℕ)) → All (λ p. length p ≤ length bs) ws → All (λ p. length p ≤ suc (length bs)) (onto b ws)
+    begun : (ws : List (List ℕ)) → AllByRecursion (λ p. length p ≤ length bs) ws → AllByRecursion (λ p. length p ≤ suc (length bs)) (onto b ws)
     begun [] f = (omega arith, tt)
     begun (w ∷ ws) f = (omega (arith, f.0), longer ws f.1)
 
-    go : (t : Bool) → All (λ p. length p ≤ length bs) (split c bs) → All (λ p. length p ≤ suc (length bs)) (cond t ([] ∷ split c bs) (onto b (split c bs)))
+    go : (t : Bool) → AllByRecursion (λ p. length p ≤ length bs) (split c bs) → AllByRecursion (λ p. length p ≤ suc (length bs)) (cond t ([] ∷ split c bs) (onto b (split c bs)))
     go true f = (omega arith, longer (split c bs) f)
     go false f = begun (split c bs) f
 
-at_most : (n : ℕ) (ws : List (List ℕ)) → n ≤ 65536 → All (λ p. length p ≤ n) ws → All (λ p. length p ≤ 65536) ws
+at_most : (n : ℕ) (ws : List (List ℕ)) → n ≤ 65536 → AllByRecursion (λ p. length p ≤ n) ws → AllByRecursion (λ p. length p ≤ 65536) ws
 at_most n [] h f = tt
 at_most n (w ∷ ws) h f = (omega (arith, f.0), at_most n ws h f.1)
 

@@ -1,12 +1,12 @@
 -- All lines of a level, from a stage on.
-use Rattle.std.proofs.Common.{◌≡◌, ℕ, zero, suc, ◌+◌, ◌^◌, ◌<◌, ◌≤◌, Bool, true, false, eqb, List, [], ◌∷◌, ◌++◌, map, length, codes, decimal, sym, refl, ap, ◌∙◌, subst, append_assoc, append-nil, arith, lit<}
-use Rattle.std.specs.List.{AllByRecursion as All}
+use Rattle.std.proofs.Common.{◌≡◌, ℕ, ◌+◌, List, [], ◌∷◌, ◌++◌, map, sym, refl, ap, ◌∙◌, subst, arith}
+use Rattle.std.specs.List.{AllByRecursion}
 use Rattle.index.specs.Outcomes.{Outcome, gives, refuses}
-use Rattle.level_theory.specs.Words.{words_of, split}
-use Rattle.level_theory.specs.Levels.{Kind, form_of, LineCall, Level, WallFits, CallFits}
-use Rattle.level_theory.specs.Texts.{spaced, call_words, count_words}
-use Rattle.level_theory.specs.Reading.{Stage, at_header, at_wall_count, at_walls, at_call_count, at_calls, at_end, walls_left, calls_left, level_with, Progress, progress, read_line, read_rest, read_lines}
-use Rattle.level_theory.proofs.Cutting.{Without, joined_split, split_joined, split_some, SomePiece}
+use Rattle.level_theory.specs.Words.{words_of}
+use Rattle.level_theory.specs.Levels.{Level}
+use Rattle.level_theory.specs.Texts.{spaced}
+use Rattle.level_theory.specs.Reading.{Stage, at_header, at_wall_count, at_walls, at_call_count, at_calls, at_end, Progress, progress, read_line, read_rest, read_lines}
+use Rattle.level_theory.proofs.Cutting.{Without, joined_split, split_joined, SomePiece}
 use Rattle.level_theory.proofs.Steps.{Step, read_right, read_is}
 
 -- the lines from a stage on, and the level that they make of the one so far
@@ -55,8 +55,8 @@ lines_are (gives p) line (l ∷ (m ∷ ms)) all e =
 -- the words of each line are without spaces and newlines, and there is one
 pub record Clean (ws : List (List ℕ)) : Type 0 where
   pub some : SomePiece ws
-  pub spaces : All (Without 32) ws
-  pub newlines : All (Without 10) ws
+  pub spaces : AllByRecursion (Without 32) ws
+  pub newlines : AllByRecursion (Without 10) ws
 
 read_more : (p : Progress) (line : ℕ) (l : List ℕ) (pieces : List (List ℕ)) → SomePiece pieces → read_lines (gives p) line (l ∷ pieces) ≡ read_lines (read_line p.stage line p.level (words_of l)) (line + 1) pieces
 read_more p line l [] s = absurd s
@@ -67,7 +67,7 @@ ended_some [] = tt
 ended_some (ws ∷ lss) = tt
 
 -- what is written in them is read
-pub lines_right : (stage : Stage) (level : Level) (lss : List (List (List ℕ))) (all : Level) (line : ℕ) → Remains stage level lss all → All Clean lss → read_lines (gives (progress stage level)) line (ended lss) ≡ gives all
+pub lines_right : (stage : Stage) (level : Level) (lss : List (List (List ℕ))) (all : Level) (line : ℕ) → Remains stage level lss all → AllByRecursion Clean lss → read_lines (gives (progress stage level)) line (ended lss) ≡ gives all
 lines_right stage level lss all line (no_more level') c = refl
 lines_right stage level lss all line (one_more stage' level' ws p rest all' s r) c =
     read_more (progress stage level) line (spaced ws) (ended rest) (ended_some rest)

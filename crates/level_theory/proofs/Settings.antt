@@ -1,5 +1,5 @@
 -- What settings that hold say.
-use Rattle.std.proofs.Common.{◌≡◌, ℕ, ◌≤◌, Bool, true, false, cond, ◌&&◌, ◌||◌, eqb, ltb, leb, [], ◌∷◌, refl, arith, ltb-false, ne_eqb, eqb-true, leb-true}
+use Rattle.std.proofs.Common.{◌≡◌, ℕ, ◌≤◌, Bool, true, false, cond, ◌&&◌, ◌||◌, eqb, ltb, leb, [], ◌∷◌, refl, arith, ltb-false, eqb-true, leb-true}
 use Rattle.index.specs.Outcomes.{Outcome, gives, refuses}
 use Rattle.gnat.specs.Chosen.{outside, settings_outcome}
 use Rattle.level_theory.specs.Levels.{neighbours_outcome, then_neighbours, header_outcome}

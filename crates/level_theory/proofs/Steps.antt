@@ -1,13 +1,13 @@
 -- One line of a level: read at a stage exactly if it is written so there.
-use Rattle.std.proofs.Common.{◌≡◌, ℕ, zero, suc, ◌+◌, ◌^◌, ◌<◌, ◌≤◌, Bool, true, false, cond, List, [], ◌∷◌, ◌++◌, map, length, get_or, drop, codes, decimal, sym, refl, ap, ◌∙◌, subst, arith, lit<, lit≤}
-use Rattle.std.specs.List.{AllByRecursion as All}
+use Rattle.std.proofs.Common.{◌≡◌, ℕ, zero, suc, ◌^◌, ◌<◌, ◌≤◌, Bool, true, false, cond, List, [], ◌∷◌, ◌++◌, map, length, get_or, drop, codes, decimal, sym, refl, ap, ◌∙◌, subst, arith, lit<}
+use Rattle.std.specs.List.{AllByRecursion}
 use Rattle.index.specs.Outcomes.{Outcome, gives, refuses}
-use Rattle.level_theory.specs.Words.{same_bytes, Want, a_number, Taken, right, wrong, take_words}
+use Rattle.level_theory.specs.Words.{same_bytes, a_number, Taken, right, wrong, take_words}
 use Rattle.level_theory.specs.Levels.{Kind, arms, cards, Form, form_of, LineCall, call_add, call_drop, call_near, call_within, call_island, call_route, Level, header_outcome, NumbersFit, WallFits, CallFits}
 use Rattle.level_theory.specs.Texts.{kind_word, call_words, count_words}
 use Rattle.level_theory.specs.Reading.{Stage, at_header, at_wall_count, at_walls, at_call_count, at_calls, at_end, walls_left, calls_left, number_wants, element_wants, setting_wants, count_wants, Letter, adds, drops, nears, withins, islands, routes, no_call, letter_of, call_wants, call_of, formed, carried, level_with, header_level, header_of, read_header, read_call_at, read_call, Progress, progress, then_level, then_call, read_line}
 use Rattle.level_theory.proofs.Numbers.{number_right}
-use Rattle.level_theory.proofs.Wanted.{spelled, Meets, Small, same_itself, same_is, taken_right, taken_is}
+use Rattle.level_theory.proofs.Wanted.{spelled, Meets, Small, same_is, taken_right, taken_is}
 
 -- a line at a stage, by its words, and where it leads
 pub data Step : Stage → Level → List (List ℕ) → Progress → Type 0 where
@@ -26,7 +26,7 @@ small_numbers : (n largest : ℕ) → largest < 2 ^ 64 → Small (number_wants n
 small_numbers zero largest h = tt
 small_numbers (suc n) largest h = (h, small_numbers n largest h)
 
-meets_numbers : (largest : ℕ) (ns : List ℕ) → All (λ n. n ≤ largest) ns → Meets (number_wants (length ns) largest) ns
+meets_numbers : (largest : ℕ) (ns : List ℕ) → AllByRecursion (λ n. n ≤ largest) ns → Meets (number_wants (length ns) largest) ns
 meets_numbers largest [] h = tt
 meets_numbers largest (n ∷ ns) h = (h.0, meets_numbers largest ns h.1)
 

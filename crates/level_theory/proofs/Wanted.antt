@@ -1,5 +1,5 @@
 -- A line has its form exactly if its words are those that are wanted, with numbers as they are written.
-use Rattle.std.proofs.Common.{◌≡◌, ℕ, ◌+◌, ◌^◌, ◌<◌, ◌≤◌, Bool, true, false, cond, ◌&&◌, eqb, List, [], ◌∷◌, Some, None, decimal, Option, sym, refl, ap, ◌∙◌, subst, arith, eq-eqb, eqb-true}
+use Rattle.std.proofs.Common.{◌≡◌, ℕ, ◌+◌, ◌^◌, ◌<◌, ◌≤◌, Bool, true, false, cond, eqb, List, [], ◌∷◌, Some, None, decimal, Option, sym, refl, subst, arith, eq-eqb, eqb-true}
 use Rattle.level_theory.specs.Words.{same_bytes, number_word, Want, the_word, a_number, Taken, right, wrong, with_number, take_words}
 use Rattle.level_theory.proofs.Numbers.{and_both, number_right, number_is}
 

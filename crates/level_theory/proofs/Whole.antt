@@ -1,11 +1,10 @@
 -- The lines of a whole level.
-use Rattle.std.proofs.Common.{◌≡◌, ℕ, zero, suc, ◌+◌, ◌<◌, ◌≤◌, List, [], ◌∷◌, ◌++◌, map, length, codes, decimal, sym, refl, ap, ◌∙◌, subst, append_assoc, append-nil, arith}
-use Rattle.std.specs.List.{AllByRecursion as All}
-use Rattle.index.specs.Outcomes.{Outcome, gives, refuses}
-use Rattle.level_theory.specs.Levels.{Kind, form_of, LineCall, Level, WallFits, CallFits, header_outcome, Valid}
+use Rattle.std.proofs.Common.{◌≡◌, ℕ, zero, suc, ◌≤◌, List, [], ◌∷◌, ◌++◌, map, length, codes, decimal, sym, refl, ap, ◌∙◌, subst, append_assoc, append-nil, arith}
+use Rattle.std.specs.List.{AllByRecursion}
+use Rattle.level_theory.specs.Levels.{Kind, form_of, LineCall, Level, WallFits, CallFits, Valid}
 use Rattle.level_theory.specs.Texts.{call_words, count_words, header_words, level_lines}
-use Rattle.level_theory.specs.Reading.{Stage, at_header, at_wall_count, at_walls, at_call_count, at_calls, at_end, walls_left, calls_left, level_with, header_level, Progress, progress, nothing_read}
-use Rattle.level_theory.proofs.Steps.{Step, step_header, step_wall_count, step_wall, step_call_count, step_call}
+use Rattle.level_theory.specs.Reading.{at_header, at_wall_count, at_call_count, at_calls, at_end, walls_left, calls_left, level_with, header_level, nothing_read}
+use Rattle.level_theory.proofs.Steps.{step_header, step_wall_count, step_wall, step_call_count, step_call}
 use Rattle.level_theory.proofs.Sections.{Remains, no_more, one_more}
 
 abbrev with_walls : Level → List (List ℕ) → Level
@@ -29,7 +28,7 @@ more_calls level call calls = ap (λ x. level_with level level.walls x) (append_
 record CallsRead (n : ℕ) (level : Level) (lss : List (List (List ℕ))) (all : Level) : Type 0 where
   calls : List LineCall
   count : length calls ≡ n
-  fit : All (CallFits (form_of level.kind)) calls
+  fit : AllByRecursion (CallFits (form_of level.kind)) calls
   lines : lss ≡ map call_words calls
   made : all ≡ with_calls level calls
 
@@ -49,7 +48,7 @@ calls_are (suc n) level lss all (one_more stage level' ws p rest all' (step_call
 record WallsRead (n : ℕ) (level : Level) (lss : List (List (List ℕ))) (all : Level) : Type 0 where
   walls : List (List ℕ)
   count : length walls ≡ n
-  fit : All (WallFits (form_of level.kind)) walls
+  fit : AllByRecursion (WallFits (form_of level.kind)) walls
   rest : List (List (List ℕ))
   lines : lss ≡ map (map decimal) walls ++ rest
   remains : Remains at_call_count (with_walls level walls) rest all
@@ -95,13 +94,13 @@ whole_is lss all (one_more stage level ws p rest all' (step_header level' kind d
     )
 
 -- a whole level is read
-calls_remain : (level : Level) (calls : List LineCall) → All (CallFits (form_of level.kind)) calls → Remains (calls_left (length calls)) level (map call_words calls) (with_calls level calls)
+calls_remain : (level : Level) (calls : List LineCall) → AllByRecursion (CallFits (form_of level.kind)) calls → Remains (calls_left (length calls)) level (map call_words calls) (with_calls level calls)
 calls_remain level [] f = (let P : Level → Type 0 = λ x. Remains at_end level [] x in subst P (no_calls level) (no_more level))
 calls_remain level (call ∷ calls) f =
     let P : Level → Type 0 = λ x. Remains (at_calls (suc (length calls))) level (call_words call ∷ map call_words calls) x in
     subst P (more_calls level call calls) (one_more _ level (call_words call) _ (map call_words calls) _ (step_call level (length calls) call f.0) (calls_remain (with_calls level (call ∷ [])) calls f.1))
 
-walls_remain : (level : Level) (walls : List (List ℕ)) (rest : List (List (List ℕ))) (all : Level) → All (WallFits (form_of level.kind)) walls → Remains at_call_count (with_walls level walls) rest all → Remains (walls_left (length walls)) level (map (map decimal) walls ++ rest) all
+walls_remain : (level : Level) (walls : List (List ℕ)) (rest : List (List (List ℕ))) (all : Level) → AllByRecursion (WallFits (form_of level.kind)) walls → Remains at_call_count (with_walls level walls) rest all → Remains (walls_left (length walls)) level (map (map decimal) walls ++ rest) all
 walls_remain level [] rest all f r = (let P : Level → Type 0 = λ x. Remains at_call_count x rest all in subst P (sym (no_walls level)) r)
 walls_remain level (wall ∷ walls) rest all f r =
     let P : Level → Type 0 = λ x. Remains at_call_count x rest all in

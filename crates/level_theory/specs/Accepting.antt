@@ -1,6 +1,6 @@
 -- Which files are accepted, in the format's own words.
 use Rattle.std.specs.Prelude.{◌≡◌, ℕ, ◌≤◌, List, length}
-use Rattle.std.specs.List.{AllByRecursion as All}
+use Rattle.std.specs.List.{AllByRecursion}
 use Rattle.index.specs.Outcomes.{Outcome, gives, refuses}
 use Rattle.level_theory.specs.Levels.{Level, Valid}
 use Rattle.level_theory.specs.Texts.{text_of}
@@ -19,4 +19,4 @@ AcceptsExactly bytes = (level : Level) → (reading bytes ≡ gives level → Is
 -- the numbers of a fault: each figure at most 1,048,576
 abbrev pub SmallTold : {A : Type 0} → Outcome A → Type 0
 SmallTold (gives x) = Unit {0}
-SmallTold (refuses n figures) = (n ≤ 11) × All (λ f. f ≤ 1048576) figures
+SmallTold (refuses n figures) = (n ≤ 11) × AllByRecursion (λ f. f ≤ 1048576) figures

@@ -1,6 +1,6 @@
 -- What a level is: a kind of element, settings, walls and calls within their limits.
 use Rattle.std.specs.Prelude.{◌≡◌, ℕ, ◌≤◌, cond, ◌&&◌, List, [], ◌∷◌, length, ◌==◌, nat_le}
-use Rattle.std.specs.List.{AllByRecursion as All}
+use Rattle.std.specs.List.{AllByRecursion}
 use Rattle.index.specs.Outcomes.{Outcome, gives, refuses}
 use Rattle.gnat.specs.Chosen.{settings_outcome}
 
@@ -49,7 +49,7 @@ abbrev pub header_outcome : ℕ → ℕ → ℕ → Outcome Unit
 header_outcome degree bucket k = cond (degree == 0 && bucket == 0) (neighbours_outcome k) (then_neighbours (settings_outcome degree bucket) k)
 
 abbrev pub NumbersFit : ℕ → ℕ → List ℕ → Type 0
-NumbersFit count largest ns = (length ns ≡ count) × All (λ n. n ≤ largest) ns
+NumbersFit count largest ns = (length ns ≡ count) × AllByRecursion (λ n. n ≤ largest) ns
 
 abbrev pub ElementFits : Form → List ℕ → Type 0
 ElementFits form ns = NumbersFit form.numbers form.largest ns
@@ -69,6 +69,6 @@ CallFits form (call_route a b) = (a ≤ 65535) × (b ≤ 65535)
 pub record Valid (level : Level) : Type 0 where
   pub settings : header_outcome level.degree level.bucket level.k ≡ gives tt
   pub few_walls : length level.walls ≤ 64
-  pub walls : All (WallFits (form_of level.kind)) level.walls
+  pub walls : AllByRecursion (WallFits (form_of level.kind)) level.walls
   pub few_calls : length level.calls ≤ 512
-  pub calls : All (CallFits (form_of level.kind)) level.calls
+  pub calls : AllByRecursion (CallFits (form_of level.kind)) level.calls

@@ -1,5 +1,5 @@
 -- How a level file is read: which level it is, or its first fault by number and figures.
-use Rattle.std.specs.Prelude.{ℕ, zero, suc, ◌+◌, Bool, cond, List, [], ◌∷◌, ◌++◌, length, drop, replicate, codes, nat_le, slice_index}
+use Rattle.std.specs.Prelude.{ℕ, zero, suc, ◌+◌, cond, List, [], ◌∷◌, ◌++◌, length, drop, codes, nat_le, slice_index}
 use Rattle.index.specs.Outcomes.{Outcome, gives, refuses}
 use Rattle.level_theory.specs.Words.{words_of, pieces_of, same_bytes, Want, the_word, a_number, Taken, right, wrong, take_words}
 use Rattle.level_theory.specs.Levels.{Kind, arms, cards, Form, form_of, LineCall, call_add, call_drop, call_near, call_within, call_island, call_route, Level, header_outcome}

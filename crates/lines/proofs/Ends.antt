@@ -1,12 +1,12 @@
 -- Lines that are read to their end. Assumes nothing.
-use Rattle.std.proofs.Common.{◌≡◌, ℕ, ◌+◌, true, false, cond, List, [], ◌∷◌, get_or, Ok, Err, codes, Option, Result, sym, refl, ap, ◌∙◌, arith}
+use Rattle.std.proofs.Common.{◌≡◌, ℕ, true, false, cond, List, [], ◌∷◌, get_or, Ok, Err, codes, Option, Result, sym, refl, ap, ◌∙◌, arith}
 use Rattle.index.specs.Outcomes.{Outcome, gives, refuses}
 use Rattle.level_theory.specs.Words.{same_bytes, Taken, right, wrong, take_words}
 use Rattle.level_theory.specs.Levels.{Form, LineCall, Level, arms, cards, header_outcome}
 use Rattle.level_theory.specs.Reading.{Letter, adds, drops, nears, withins, islands, routes, no_call, letter_of, call_wants, call_of, formed, carried, setting_wants, header_level, header_of, read_header, read_call, read_call_at}
 use Rattle.words.specs.declared.cursor.Misplaced.{Misplaced}
 use Rattle.words.specs.Tokens.{Word}
-use Rattle.words.specs.Cursors.{Part, got, lacks, part, end_of, first_word, words_after, place_after}
+use Rattle.words.specs.Cursors.{Part, got, end_of, first_word, words_after, place_after}
 use Rattle.words.proofs.Parts.{whole, take_part}
 use Rattle.lines.specs.declared.calls.CallLine.{CallLine}
 use Rattle.lines.specs.declared.calls.CallLine.TheVariants.{Add, Drop, Near, Within, Island, Route}
@@ -15,7 +15,7 @@ use Rattle.lines.specs.declared.header.Kind.{Kind}
 use Rattle.lines.specs.declared.header.Kind.TheVariants.{Arms, Cards}
 use Rattle.lines.specs.declared.header.Header.{Header}
 use Rattle.lines.specs.Faults.{fault_number, fault_figures, at_line_of}
-use Rattle.lines.specs.Headers.{kind_shown, header_numbers, settings_read, with_kind, header_read, kind_of_letters}
+use Rattle.lines.specs.Headers.{kind_shown, header_numbers, settings_read, with_kind, header_read}
 use Rattle.lines.specs.Calls.{sole, named, letter_shown, call_numbers, call_shown, call_part}
 use Rattle.lines.proofs.Firsts.{letter_word}
 

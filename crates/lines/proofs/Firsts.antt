@@ -1,15 +1,13 @@
 -- The first word of a line, by its token. Assumes nothing.
-use Rattle.std.proofs.Common.{◌≡◌, ℕ, ◌+◌, ◌<◌, Bool, true, false, cond, ◌&&◌, eqb, List, [], ◌∷◌, length, Some, None, Ok, Err, codes, Decides, Option, Result, sym, refl, ap, ◌∙◌, arith, rules, ne_eqb}
+use Rattle.std.proofs.Common.{◌≡◌, ℕ, ◌+◌, ◌<◌, Bool, true, false, cond, ◌&&◌, eqb, List, [], ◌∷◌, length, Err, codes, Decides, sym, refl, ap, ◌∙◌, arith, rules, ne_eqb}
 use mathlib.Core.Bool.{and-false, and-true}
 use Rattle.std.proofs.lemmas.Slice.Eq.{IsBytesEq, compares_Decides}
-use Rattle.level_theory.specs.Words.{letter, digit, all_bytes, same_bytes, Want, the_word, Taken, right, wrong, take_words}
-use Rattle.level_theory.specs.Reading.{Letter, adds, drops, nears, withins, islands, routes, no_call, letter_of, setting_wants}
-use Rattle.words.specs.declared.cursor.Misplaced.{Misplaced}
+use Rattle.level_theory.specs.Words.{letter, digit, all_bytes, same_bytes, Want, the_word, wrong, take_words}
+use Rattle.level_theory.specs.Reading.{no_call, letter_of, setting_wants}
 use Rattle.words.specs.Tokens.{Word, letters, digits, amiss, word_of, place_of}
 use Rattle.words.specs.Cursors.{first_word, words_after, place_after}
-use Rattle.lines.specs.declared.header.Kind.{Kind}
 use Rattle.lines.specs.Headers.{kind_of_letters, kind_named, settings_read, with_kind, header_read}
-use Rattle.lines.specs.Calls.{sole_of, sole, letter_named, named}
+use Rattle.lines.specs.Calls.{sole, letter_named, named}
 
 compares : IsBytesEq same_bytes
 compares = search rules

@@ -1,20 +1,20 @@
 -- The edges that records hold after one more record, and after one less. Assumes nothing.
-use Rattle.std.proofs.Common.{◌≡◌, ℕ, zero, suc, ◌+◌, ◌-◌, ◌<◌, ◌≤◌, Bool, true, false, cond, ◌||◌, eqb, ◌⊎◌, List, [], ◌∷◌, ◌++◌, map, length, get_or, take, drop, filter, sym, refl, ap, ◌∙◌, subst, inl, inr, arith}
-use Rattle.std.specs.List.{flat_map, AllByRecursion as All}
+use Rattle.std.proofs.Common.{◌≡◌, ℕ, zero, suc, ◌<◌, ◌≤◌, Bool, true, false, cond, ◌||◌, eqb, ◌⊎◌, List, [], ◌∷◌, ◌++◌, map, length, take, drop, filter, sym, refl, ap, ◌∙◌, inl, inr, arith}
+use Rattle.std.specs.List.{flat_map, AllByRecursion}
 use Rattle.std.proofs.lemmas.List.{map_push, append_assoc, append-nil, length-map}
 use Rattle.std.proofs.lemmas.Bool.{ne_eqb, eq-eqb, eqb-true, cases_eq, both_ways, or_left, or_right, or_from}
 use Rattle.hits.specs.declared.Hit.{Hit}
 use Rattle.chains.specs.declared.Edge.{Edge}
-use Rattle.chains.specs.Edges.{edge, Rises}
+use Rattle.chains.specs.Edges.{Rises}
 use Rattle.chains.proofs.Places.{rises_above}
 use Rattle.links.specs.declared.Links.{Links}
-use Rattle.links.specs.Records.{numbers, number_at, elders, Sound, has, edge_to, record_edges, edges_among, edges_of, touches, edges_without}
+use Rattle.links.specs.Records.{numbers, number_at, elders, has, edge_to, record_edges, edges_among, edges_of, touches, edges_without}
 
-kept_alike : {X : Type 0} (p q : X → Bool) (xs : List X) → All (λ x. p x ≡ q x) xs → filter p xs ≡ filter q xs
+kept_alike : {X : Type 0} (p q : X → Bool) (xs : List X) → AllByRecursion (λ x. p x ≡ q x) xs → filter p xs ≡ filter q xs
 kept_alike p q [] a = refl
 kept_alike p q (x ∷ xs) a = ap (λ b. cond b (x ∷ filter p xs) (filter p xs)) a.0 ∙ ap (λ z. cond (q x) (x ∷ z) z) (kept_alike p q xs a.1)
 
-kept_whole : {X : Type 0} (p : X → Bool) (xs : List X) → All (λ x. p x ≡ true) xs → filter p xs ≡ xs
+kept_whole : {X : Type 0} (p : X → Bool) (xs : List X) → AllByRecursion (λ x. p x ≡ true) xs → filter p xs ≡ xs
 kept_whole p [] a = refl
 kept_whole p (x ∷ xs) a = ap (λ b. cond b (x ∷ filter p xs) (filter p xs)) a.0 ∙ ap (λ z. x ∷ z) (kept_whole p xs a.1)
 
@@ -30,7 +30,7 @@ has_push_more (y ∷ ns) n x e = go (eqb y x) e (λ h. has_push_more ns n x h)
     go true f ih = refl
     go false f ih = ih f
 
-edges_alike : (ns ms : List ℕ) (links : List Links) → All (λ r. All (λ h. has ns h.number ≡ has ms h.number) (elders r)) links → edges_among ns links ≡ edges_among ms links
+edges_alike : (ns ms : List ℕ) (links : List Links) → AllByRecursion (λ r. AllByRecursion (λ h. has ns h.number ≡ has ms h.number) (elders r)) links → edges_among ns links ≡ edges_among ms links
 edges_alike ns ms [] a = refl
 edges_alike ns ms (r ∷ rs) a =
     ap (λ z. map (edge_to r.number) z ++ edges_among ns rs) (kept_alike (λ h. has ns h.number) (λ h. has ms h.number) (elders r) a.0)
@@ -40,17 +40,17 @@ joined_push : {X A : Type 0} (f : X → List A) (xs : List X) (x : X) → flat_m
 joined_push f [] x = append-nil (f x)
 joined_push f (y ∷ ys) x = ap (λ z. f y ++ z) (joined_push f ys x) ∙ sym (append_assoc (f y) (flat_map f ys) (f x))
 
-all_two : {X : Type 0} (P Q : X → Type 0) → ((x : X) → P x → Q x) → (xs : List X) → All P xs → All Q xs
+all_two : {X : Type 0} (P Q : X → Type 0) → ((x : X) → P x → Q x) → (xs : List X) → AllByRecursion P xs → AllByRecursion Q xs
 all_two P Q f [] a = tt
 all_two P Q f (x ∷ xs) a = (f x a.0, all_two P Q f xs a.1)
 
 -- one more record, whose number is above those of all elders, and whose elders stand
-pub edges_push : (links : List Links) (r : Links) → All (λ x. All (λ h. h.number < r.number) (elders x)) links → All (λ h. has (numbers links) h.number ≡ true) (elders r) → edges_of (links ++ (r ∷ [])) ≡ edges_of links ++ map (edge_to r.number) (elders r)
+pub edges_push : (links : List Links) (r : Links) → AllByRecursion (λ x. AllByRecursion (λ h. h.number < r.number) (elders x)) links → AllByRecursion (λ h. has (numbers links) h.number ≡ true) (elders r) → edges_of (links ++ (r ∷ [])) ≡ edges_of links ++ map (edge_to r.number) (elders r)
 edges_push links r young there =
     let ns = numbers links in
     let n = r.number in
     let names : numbers (links ++ (r ∷ [])) ≡ ns ++ (n ∷ []) = map_push (λ x. x.number) links r in
-    let same : edges_among (ns ++ (n ∷ [])) links ≡ edges_among ns links = edges_alike (ns ++ (n ∷ [])) ns links (all_two (λ x. All (λ h. h.number < n) (elders x)) (λ x. All (λ h. has (ns ++ (n ∷ [])) h.number ≡ has ns h.number) (elders x)) (λ x a. all_two (λ h. h.number < n) (λ h. has (ns ++ (n ∷ [])) h.number ≡ has ns h.number) (λ h l. has_push_other ns n h.number (λ e. omega arith)) (elders x) a) links young) in
+    let same : edges_among (ns ++ (n ∷ [])) links ≡ edges_among ns links = edges_alike (ns ++ (n ∷ [])) ns links (all_two (λ x. AllByRecursion (λ h. h.number < n) (elders x)) (λ x. AllByRecursion (λ h. has (ns ++ (n ∷ [])) h.number ≡ has ns h.number) (elders x)) (λ x a. all_two (λ h. h.number < n) (λ h. has (ns ++ (n ∷ [])) h.number ≡ has ns h.number) (λ h l. has_push_other ns n h.number (λ e. omega arith)) (elders x) a) links young) in
     let all : filter (λ h. has (ns ++ (n ∷ [])) h.number) (elders r) ≡ elders r = kept_whole (λ h. has (ns ++ (n ∷ [])) h.number) (elders r) (all_two (λ h. has ns h.number ≡ true) (λ h. has (ns ++ (n ∷ [])) h.number ≡ true) (λ h e. has_push_more ns n h.number e) (elders r) there) in
     ap (λ z. edges_among z (links ++ (r ∷ []))) names
     ∙ (joined_push (record_edges (ns ++ (n ∷ []))) links r
@@ -164,15 +164,15 @@ taken_out n low (suc at) (x ∷ xs) l r e =
     ap (λ z. x ∷ z) (taken_out n x.number at xs (omega arith) r.1 e)
     ∙ sym (ap (λ b. cond b (links_without n xs) (x ∷ links_without n xs)) (ne_eqb x.number n (λ f. omega arith)))
 
-pub all_without : (P : Links → Type 0) (n : ℕ) (links : List Links) → All P links → All P (links_without n links)
+pub all_without : (P : Links → Type 0) (n : ℕ) (links : List Links) → AllByRecursion P links → AllByRecursion P (links_without n links)
 all_without P n [] a = tt
 all_without P n (r ∷ rs) a = go (eqb r.number n) (all_without P n rs a.1)
   where
-    go : (b : Bool) → All P (links_without n rs) → All P (cond b (links_without n rs) (r ∷ links_without n rs))
+    go : (b : Bool) → AllByRecursion P (links_without n rs) → AllByRecursion P (cond b (links_without n rs) (r ∷ links_without n rs))
     go true x = x
     go false x = (a.0, x)
 
 -- a record without elders has no edges
-pub no_edges : (ns : List ℕ) (links : List Links) → All (λ r. r.count ≡ 0) links → edges_among ns links ≡ []
+pub no_edges : (ns : List ℕ) (links : List Links) → AllByRecursion (λ r. r.count ≡ 0) links → edges_among ns links ≡ []
 no_edges ns [] a = refl
 no_edges ns (r ∷ rs) a = ap (λ k. map (edge_to r.number) (filter (λ h. has ns h.number) (take k r.elders)) ++ edges_among ns rs) a.0 ∙ no_edges ns rs a.1

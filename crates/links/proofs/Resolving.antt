@@ -1,16 +1,16 @@
 -- Finding records, and writing their edges by place. Assumes nothing.
-use Rattle.std.proofs.Common.{◌≡◌, ℕ, zero, suc, ◌+◌, ◌-◌, ◌*◌, ◌<◌, ◌≤◌, Bool, true, false, cond, ◌||◌, eqb, ◌⊎◌, List, [], ◌∷◌, ◌++◌, map, length, get_or, take, drop, set, filter, sym, refl, ap, ◌∙◌, subst, inl, inr, arith, length-set, length-take}
-use Rattle.std.specs.List.{flat_map, AllByRecursion as All}
-use Rattle.std.proofs.lemmas.List.{length-map, get_or-map, take_more_set, map_push, append_assoc, append-nil, take_more, map-append, take-take, get_or_default, get_or-take, map-set}
+use Rattle.std.proofs.Common.{◌≡◌, ℕ, zero, suc, ◌+◌, ◌<◌, ◌≤◌, Bool, true, false, cond, eqb, ◌⊎◌, List, [], ◌∷◌, ◌++◌, map, length, get_or, take, set, filter, sym, refl, ap, ◌∙◌, subst, inl, inr, arith, length-take}
+use Rattle.std.specs.List.{flat_map, AllByRecursion}
+use Rattle.std.proofs.lemmas.List.{length-map, get_or-map, take_more_set, map_push, append_assoc, append-nil, take_more, get_or-take}
 use Rattle.std.proofs.lemmas.List.Elements.{filter_more}
-use Rattle.std.proofs.ByRecursion.{All-push, All-get_or, All-take}
+use Rattle.std.proofs.ByRecursion.{All-push, All-get_or}
 use Rattle.std.proofs.lemmas.Bool.{cases_lt, cases_order, ne_eqb, eq-eqb, or_from, or_right, or_left}
 use Rattle.hits.specs.declared.Hit.{Hit}
 use Rattle.chains.specs.declared.Edge.{Edge}
 use Rattle.chains.specs.Edges.{edge, renamed, Inside, Rises}
 use Rattle.chains.proofs.Places.{rises_at}
 use Rattle.links.specs.declared.Links.{Links}
-use Rattle.links.specs.Records.{numbers, number_at, elders, Sound, has, edge_to, record_edges, edges_among, Resolved, OneMore}
+use Rattle.links.specs.Records.{numbers, number_at, elders, Sound, has, edge_to, record_edges, Resolved, OneMore}
 
 pub number_is : (links : List Links) (i : ℕ) (d : Links) → i < length links → (get_or links i d).number ≡ number_at links i
 number_is links i d l = sym (get_or-map (λ r. r.number) links i d 0 l)
@@ -29,7 +29,7 @@ has_at (x ∷ xs) n (suc i) l e = or_right (eqb x n) (has xs n) (has_at xs n i (
 pub record SoFar (links : List Links) (r : Links) (before : List Edge) (made : ℕ) (after : List Edge) (all i : ℕ) : Type 0 where
   pub low : made ≤ all
   pub few : all ≤ made + i
-  pub inside : All (Inside (length links)) (take made before) → All (Inside (length links)) (take all after)
+  pub inside : AllByRecursion (Inside (length links)) (take made before) → AllByRecursion (Inside (length links)) (take all after)
   pub named : map (renamed (number_at links)) (take all after) ≡ map (renamed (number_at links)) (take made before) ++ map (edge_to r.number) (filter (λ h. has (numbers links) h.number) (take i r.elders))
 
 module _ (links : List Links) (r : Links) (before : List Edge) (made : ℕ) where
@@ -59,7 +59,7 @@ module _ (links : List Links) (r : Links) (before : List Edge) (made : ℕ) wher
         let next : filter (λ x. has (numbers links) x.number) (take (i + 1) r.elders) ≡ ks ++ (h ∷ []) = more ∙ ap (λ z. ks ++ z) here in
         let name : renamed (number_at links) e ≡ edge_to r.number h = (λ k. edge (isP k) (is_a k) h.distance) in
         let old = map (renamed (number_at links)) (take made before) in
-        let P : List Edge → Type 0 = λ z. All (Inside (length links)) z in
+        let P : List Edge → Type 0 = λ z. AllByRecursion (Inside (length links)) z in
         record {
           low = omega (arith, s.low);
           few = omega (arith, s.few);
@@ -133,7 +133,7 @@ all_resolved links at edges n a b r =
     subst P e r
 
 -- the record at a place is sound
-pub record_sound : (links : List Links) (at : ℕ) → at < length links → All Sound links → Sound (get_or links at (record { number = 0; count = 0; elders = [] }))
+pub record_sound : (links : List Links) (at : ℕ) → at < length links → AllByRecursion Sound links → Sound (get_or links at (record { number = 0; count = 0; elders = [] }))
 record_sound links at l all = All-get_or Sound links at (record { number = 0; count = 0; elders = [] }) l all
 
 pub elder_short : (r : Links) (i : ℕ) → Sound r → i < r.count → (get_or r.elders i (record { number = 0; distance = 0 })).distance ≤ 1048576

@@ -1,6 +1,6 @@
 -- The edges that records hold.
-use Rattle.std.specs.Prelude.{◌≡◌, ℕ, ◌+◌, ◌-◌, ◌*◌, ◌<◌, ◌≤◌, Bool, true, false, cond, ◌||◌, List, [], ◌∷◌, ◌++◌, map, length, take, drop, Some, None, filter, Option, ◌==◌, slice_index, slice_index_or, slice_range}
-use Rattle.std.specs.List.{flat_map, AllByRecursion as All}
+use Rattle.std.specs.Prelude.{◌≡◌, ℕ, ◌+◌, ◌*◌, ◌<◌, ◌≤◌, Bool, false, cond, ◌||◌, List, [], ◌∷◌, ◌++◌, map, length, take, drop, Some, None, filter, Option, ◌==◌, slice_index, slice_index_or, slice_range}
+use Rattle.std.specs.List.{flat_map, AllByRecursion}
 use Rattle.hits.specs.declared.Hit.{Hit}
 use Rattle.chains.specs.declared.Edge.{Edge}
 use Rattle.chains.specs.Edges.{edge, renamed, Inside, Rises}
@@ -21,12 +21,12 @@ elders r = take r.count r.elders
 pub record Sound (r : Links) : Type 0 where
   pub count_bound : r.count ≤ 8
   pub places : length r.elders ≡ 8
-  pub elder : All (λ h. (h.number < r.number) × (h.distance ≤ 1048576)) (elders r)
+  pub elder : AllByRecursion (λ h. (h.number < r.number) × (h.distance ≤ 1048576)) (elders r)
 
 -- records by rising number, each sound, as many as samples can stand
 pub record Good (links : List Links) : Type 0 where
   pub rises : Rises 0 (numbers links)
-  pub sound : All Sound links
+  pub sound : AllByRecursion Sound links
   pub few : length links ≤ 1024
 
 abbrev pub has : List ℕ → ℕ → Bool
@@ -51,13 +51,13 @@ edges_of links = edges_among (numbers links) links
 -- the first n of these edges, by place, are those of the first `upto` records
 pub record Resolved (links : List Links) (upto : ℕ) (edges : List Edge) (n : ℕ) : Type 0 where
   pub few : n ≤ 8 * upto
-  pub inside : All (Inside (length links)) (take n edges)
+  pub inside : AllByRecursion (Inside (length links)) (take n edges)
   pub named : map (renamed (number_at links)) (take n edges) ≡ edges_among (numbers links) (take upto links)
 
 -- one more record's edges behind those that were
 pub record OneMore (links : List Links) (at : ℕ) (before : List Edge) (made : ℕ) (after : List Edge) (n : ℕ) : Type 0 where
   pub few : n ≤ made + 8
-  pub inside : All (Inside (length links)) (take made before) → All (Inside (length links)) (take n after)
+  pub inside : AllByRecursion (Inside (length links)) (take made before) → AllByRecursion (Inside (length links)) (take n after)
   pub named : (d : Links) → map (renamed (number_at links)) (take n after) ≡ map (renamed (number_at links)) (take made before) ++ record_edges (numbers links) (slice_index_or links at d)
 
 -- the records from `at` up to `used`

@@ -2,7 +2,7 @@
 #![tactic(auto)]
 
 ghost use Rattle.std.specs.Prelude.{◌≡◌, ◌*◌, ◌<◌, ◌≤◌, map, length, replicate};
-ghost use Rattle.std.specs.List.{AllByRecursion as All};
+ghost use Rattle.std.specs.List.{AllByRecursion};
 ghost use Rattle.chains.specs.Edges.{Rises};
 ghost use Rattle.links.specs.Records.{numbers, number_at, Good, Resolved, OneMore, closed, Found};
 
@@ -101,7 +101,7 @@ pub fn resolve(links: &[Links], edges: &mut [Edge]) -> usize
 
 // Turns places into the numbers of the records there.
 pub fn rename(links: &[Links], list: &mut [u16])
-    requires { All (λ at. at < length links.now) list.old }
+    requires { AllByRecursion (λ at. at < length links.now) list.old }
     ensures { list.new ≡ map (number_at links.now) list.old }
 {
     for i in 0..list.len() {

@@ -1,5 +1,5 @@
 -- The length of a path, step by step, and its bound. Assumes nothing.
-use Rattle.std.proofs.Common.{◌≡◌, ℕ, zero, suc, ◌+◌, ◌-◌, ◌*◌, ◌^◌, ◌<◌, ◌≤◌, leb, List, [], ◌∷◌, length, get_or, drop, Some, refl, ap, arith, le-leb}
+use Rattle.std.proofs.Common.{◌≡◌, ℕ, zero, suc, ◌+◌, ◌-◌, ◌*◌, ◌^◌, ◌<◌, ◌≤◌, List, [], ◌∷◌, length, get_or, drop, Some, refl, ap, arith, le-leb}
 use Rattle.std.proofs.lemmas.List.{get_or_read}
 use Rattle.metric.specs.Laws.{MetricLaws}
 use Rattle.metric.specs.Paths.{path_length, measured}

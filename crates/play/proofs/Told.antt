@@ -1,6 +1,6 @@
 -- What a play tells, from what reading and playing its calls tell.
 use Rattle.std.proofs.Common.{◌≡◌, ℕ, zero, suc, ◌+◌, ◌<◌, ◌≤◌, List, [], ◌∷◌, map, length, get_or, take, Ok, Err, codes, decimal, Result, sym, refl, ap, ◌∙◌, subst, arith, lit<, length-append, length-take}
-use Rattle.std.specs.List.{AllByRecursion as All}
+use Rattle.std.specs.List.{AllByRecursion}
 use Rattle.std.proofs.lemmas.Fmt.{length-decimal-le}
 use Rattle.arm_checkers.specs.Passes.{step_passes}
 use Rattle.card_checker.specs.Passes.{mix_passes}
@@ -46,7 +46,7 @@ told_played bytes out level o after e x =
     let P : Outcome Level → Type 0 = λ r. PlayedAs r out o after in
     all_told bytes out o after (subst P e x)
 
-figure_small : (figures : List ℕ) (i : ℕ) → All (λ f. f ≤ 1048576) figures → get_or figures i 0 ≤ 1048576
+figure_small : (figures : List ℕ) (i : ℕ) → AllByRecursion (λ f. f ≤ 1048576) figures → get_or figures i 0 ≤ 1048576
 figure_small [] zero s = omega arith
 figure_small [] (suc i) s = omega arith
 figure_small (f ∷ figures) zero s = s.0

@@ -1,10 +1,10 @@
 -- Records for the samples that stand already. Assumes nothing.
-use Rattle.std.proofs.Common.{◌≡◌, ℕ, ◌+◌, ◌<◌, ◌≤◌, Bool, true, false, ◌⊎◌, List, [], ◌∷◌, ◌++◌, map, length, take, set, replicate, Some, None, Option, sym, refl, ap, ◌∙◌, subst, inl, inr, arith, length-append, length-set, length-take}
-use Rattle.std.specs.List.{AllByRecursion as All}
+use Rattle.std.proofs.Common.{◌≡◌, ℕ, ◌+◌, ◌<◌, ◌≤◌, ◌⊎◌, List, [], ◌∷◌, ◌++◌, length, take, set, replicate, Some, None, sym, refl, ap, ◌∙◌, subst, inl, inr, arith, length-append, length-set, length-take}
+use Rattle.std.specs.List.{AllByRecursion}
 use Rattle.std.proofs.lemmas.List.{take_more_set, map_push, append_assoc, append-nil, length-map}
 use Rattle.std.proofs.ByRecursion.{All-push}
 use Rattle.std.proofs.lemmas.Bool.{cases_order}
-use Rattle.hits.specs.Samples.{Among, Rising}
+use Rattle.hits.specs.Samples.{Among}
 use Rattle.chains.specs.Edges.{Rises}
 use Rattle.index.specs.Meaning.{Meaning, Lawful, element_at}
 use Rattle.links.specs.declared.Links.{Links}
@@ -19,13 +19,13 @@ pub record Filling {E : Type 0} (m : Meaning E) (i used : ℕ) (links : List Lin
   pub is : i ≡ below + 1
   pub rest : List ℕ
   pub split : sample_numbers m ≡ numbers (take used links) ++ rest
-  pub low : All (λ n. n ≤ below) (numbers (take used links))
+  pub low : AllByRecursion (λ n. n ≤ below) (numbers (take used links))
   pub high : Rises below rest
   pub used_bound : used ≤ length links
-  pub unlinked : All (λ r. r.count ≡ 0) (take used links)
-  pub places : All (λ r. length r.elders ≡ 8) (take used links)
+  pub unlinked : AllByRecursion (λ r. r.count ≡ 0) (take used links)
+  pub places : AllByRecursion (λ r. length r.elders ≡ 8) (take used links)
 
-not_among : (ns : List ℕ) (b n : ℕ) → All (λ x. x ≤ b) ns → b < n → Among n ns → ⊥
+not_among : (ns : List ℕ) (b n : ℕ) → AllByRecursion (λ x. x ≤ b) ns → b < n → Among n ns → ⊥
 not_among [] b n a l m = m
 not_among (x ∷ xs) b n a l (inl e) = omega (arith, a.0)
 not_among (x ∷ xs) b n a l (inr m) = not_among xs b n a.1 l m
@@ -48,11 +48,11 @@ right_among : (xs ys : List ℕ) (n : ℕ) → Among n ys → Among n (xs ++ ys)
 right_among [] ys n a = a
 right_among (x ∷ xs) ys n a = inr (right_among xs ys n a)
 
-weaker : (b c : ℕ) (ns : List ℕ) → b ≤ c → All (λ n. n ≤ b) ns → All (λ n. n ≤ c) ns
+weaker : (b c : ℕ) (ns : List ℕ) → b ≤ c → AllByRecursion (λ n. n ≤ b) ns → AllByRecursion (λ n. n ≤ c) ns
 weaker b c [] l a = tt
 weaker b c (x ∷ xs) l a = (omega (arith, a.0), weaker b c xs l a.1)
 
-right_all : (P : ℕ → Type 0) (xs ys : List ℕ) → All P (xs ++ ys) → All P ys
+right_all : (P : ℕ → Type 0) (xs ys : List ℕ) → AllByRecursion P (xs ++ ys) → AllByRecursion P ys
 right_all P [] ys a = a
 right_all P (x ∷ xs) ys a = right_all P xs ys a.1
 
@@ -63,10 +63,10 @@ module _ {E : Type 0} (m : Meaning E) (law : Lawful m) where
   pub fill_ends : (i used : ℕ) (links : List Links) → m.last < i → Filling m i used links → Filled m used links
   fill_ends i used links l f = record { used_bound = f.used_bound; unlinked = f.unlinked; places = f.places; numbered = sym (f.split ∙ (ap (λ z. numbers (take used links) ++ z) (none f.rest f.high bounded) ∙ append-nil (numbers (take used links)))) }
     where
-      bounded : All (λ n. n ≤ m.last) f.rest
-      bounded = (let P : List ℕ → Type 0 = λ z. All (λ n. n ≤ m.last) z in right_all (λ n. n ≤ m.last) (numbers (take used links)) f.rest (subst P f.split (rising_bound 0 m.last m.standing law.rising)))
+      bounded : AllByRecursion (λ n. n ≤ m.last) f.rest
+      bounded = (let P : List ℕ → Type 0 = λ z. AllByRecursion (λ n. n ≤ m.last) z in right_all (λ n. n ≤ m.last) (numbers (take used links)) f.rest (subst P f.split (rising_bound 0 m.last m.standing law.rising)))
 
-      none : (ns : List ℕ) → Rises f.below ns → All (λ n. n ≤ m.last) ns → ns ≡ []
+      none : (ns : List ℕ) → Rises f.below ns → AllByRecursion (λ n. n ≤ m.last) ns → ns ≡ []
       none [] r a = refl
       none (x ∷ xs) r a = absurd (omega (arith, r.0, a.0, f.is))
 
@@ -123,9 +123,9 @@ module _ {E : Type 0} (m : Meaning E) (law : Lawful m) where
         let front : take (used + 1) (set links used own) ≡ take used links ++ (own ∷ []) = take_more_set links used own l in
         let num : own.number ≡ i = ap (λ z. z.number) is in
         let names : numbers (take (used + 1) (set links used own)) ≡ numbers (take used links) ++ (i ∷ []) = ap numbers front ∙ (map_push (λ r. r.number) (take used links) own ∙ ap (λ z. numbers (take used links) ++ (z ∷ [])) num) in
-        let P : List ℕ → Type 0 = λ z. All (λ n. n ≤ i) z in
-        let Q : List Links → Type 0 = λ z. All (λ r. r.count ≡ 0) z in
-        let R : List Links → Type 0 = λ z. All (λ r. length r.elders ≡ 8) z in
+        let P : List ℕ → Type 0 = λ z. AllByRecursion (λ n. n ≤ i) z in
+        let Q : List Links → Type 0 = λ z. AllByRecursion (λ r. r.count ≡ 0) z in
+        let R : List Links → Type 0 = λ z. AllByRecursion (λ r. length r.elders ≡ 8) z in
         record {
           below = i;
           is = refl;

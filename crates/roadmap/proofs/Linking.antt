@@ -1,14 +1,13 @@
 -- The record of a new sample, hit by hit. Assumes nothing.
 use Rattle.std.proofs.Common.{◌≡◌, ℕ, ◌+◌, ◌<◌, ◌≤◌, Bool, true, false, cond, List, [], ◌∷◌, ◌++◌, length, get_or, take, set, replicate, Some, None, filter, Option, sym, refl, ap, ◌∙◌, subst, arith, length-set}
-use Rattle.std.specs.List.{AllByRecursion as All}
 use Rattle.std.proofs.lemmas.List.{append-nil, take_all, take_more_set, length_push}
 use Rattle.std.proofs.lemmas.List.Elements.{filter_more}
 use Rattle.hits.specs.declared.Hit.{Hit}
 use Rattle.index.specs.Meaning.{Meaning, element_at}
-use Rattle.index.specs.Outcomes.{Outcome, gives, refuses}
+use Rattle.index.specs.Outcomes.{gives, refuses}
 use Rattle.index.specs.Calls.{element_outcome, standing_outcome}
 use Rattle.links.specs.declared.Links.{Links}
-use Rattle.roadmap.specs.Calls.{passes_with, passes_hit, LinkedTo}
+use Rattle.roadmap.specs.Calls.{passes_hit, LinkedTo}
 
 -- what an answer to `element` says of the samples
 pub element_none : {E : Type 0} (m : Meaning E) (n code : ℕ) (figures : List ℕ) → refuses code figures ≡ element_outcome m n → element_at n m.standing ≡ None

@@ -1,12 +1,11 @@
 -- The standing samples and the numbers of their records. Assumes nothing.
-use Rattle.std.proofs.Common.{◌≡◌, ℕ, zero, suc, ◌+◌, ◌<◌, ◌≤◌, Bool, true, false, cond, ◌||◌, eqb, ◌⊎◌, List, [], ◌∷◌, ◌++◌, map, length, take, Some, None, filter, Option, sym, refl, ap, ◌∙◌, subst, inl, inr, ⊎_elim, arith}
-use Rattle.std.specs.List.{flat_map, AllByRecursion as All}
+use Rattle.std.proofs.Common.{◌≡◌, ℕ, ◌≤◌, Bool, true, false, cond, eqb, ◌⊎◌, List, [], ◌∷◌, ◌++◌, map, length, Some, None, filter, Option, sym, refl, ap, ◌∙◌, subst, inl, inr, ⊎_elim, arith}
+use Rattle.std.specs.List.{AllByRecursion}
 use Rattle.std.proofs.lemmas.List.{length-map}
 use Rattle.std.proofs.lemmas.Bool.{eq-eqb, ne_eqb, eqb-true, eqb-false, cases_eq, both_ways, or_cases, or_left, or_right, or_parts}
 use Rattle.hits.specs.declared.Hit.{Hit}
 use Rattle.hits.specs.Samples.{Sample, Among, Rising}
-use Rattle.chains.specs.declared.Edge.{Edge}
-use Rattle.chains.specs.Chains.{Joined, Island, Route}
+use Rattle.chains.specs.Chains.{Island}
 use Rattle.chains.specs.Edges.{edge, Linked, Rises}
 use Rattle.chains.proofs.Moving.{Same, joined_same, island_same, route_same}
 use Rattle.index.specs.Meaning.{Meaning, Lawful, element_at, without}
@@ -34,7 +33,7 @@ module _ {E : Type 0} where
   rising_rises low high [] r = tt
   rising_rises low high (x ∷ xs) r = (r.0, rising_rises x.number high xs r.2)
 
-  pub rising_bound : (low high : ℕ) (xs : List (Sample E)) → Rising low high xs → All (λ n. n ≤ high) (map (λ s. s.number) xs)
+  pub rising_bound : (low high : ℕ) (xs : List (Sample E)) → Rising low high xs → AllByRecursion (λ n. n ≤ high) (map (λ s. s.number) xs)
   rising_bound low high [] r = tt
   rising_bound low high (x ∷ xs) r = (r.1, rising_bound x.number high xs r.2)
 
@@ -109,7 +108,7 @@ module _ {E : Type 0} (m : Meaning E) (law : Lawful m) (links : List Links) (nam
   pub count : length links ≡ length m.standing
   count = sym (length-map links (λ r. r.number)) ∙ (ap length named ∙ length-map m.standing (λ s. s.number))
 
-  pub good : All Sound links → Good links
+  pub good : AllByRecursion Sound links → Good links
   good s =
       let P : List ℕ → Type 0 = λ z. Rises 0 z in
       record { rises = subst P (sym named) (rising_rises 0 m.last m.standing law.rising); sound = s; few = omega (arith, count, law.room, law.capacity_bound) }

@@ -1,6 +1,6 @@
 -- The states of a roadmap before and after a call. Assumes nothing.
-use Rattle.std.proofs.Common.{◌≡◌, ℕ, suc, ◌+◌, ◌-◌, ◌<◌, ◌≤◌, min, Bool, true, false, ◌⊎◌, List, [], ◌∷◌, ◌++◌, map, length, take, drop, set, Some, None, filter, Option, sym, refl, ap, ◌∙◌, subst, inl, inr, arith, length-set, length-take}
-use Rattle.std.specs.List.{AllByRecursion as All}
+use Rattle.std.proofs.Common.{◌≡◌, ℕ, ◌+◌, ◌-◌, ◌<◌, ◌≤◌, Bool, true, ◌⊎◌, List, [], ◌∷◌, ◌++◌, map, length, take, drop, set, Some, None, filter, Option, sym, refl, ap, ◌∙◌, subst, inl, inr, arith, length-set, length-take}
+use Rattle.std.specs.List.{AllByRecursion}
 use Rattle.std.proofs.lemmas.List.{take_at, take_all, take_more_set, map_push, length-map}
 use Rattle.std.proofs.ByRecursion.{All-push, All-take, all_kept_by, All-weaker}
 use Rattle.std.proofs.lemmas.List.Sums.{length-filter, count_by-le-length}
@@ -10,13 +10,12 @@ use Rattle.hits.specs.Samples.{Sample, Among, Rising, hits, hit_of}
 use Rattle.hits.specs.Lists.{over}
 use Rattle.hits.proofs.Putting.{all_put}
 use Rattle.hits.proofs.Ranking.{length_hits}
-use Rattle.chains.specs.declared.Edge.{Edge}
 use Rattle.chains.specs.Chains.{Island}
 use Rattle.chains.specs.Edges.{Linked}
 use Rattle.chains.proofs.Places.{among_at}
 use Rattle.graph.specs.Routes.{Standing, Routed}
-use Rattle.index.specs.Meaning.{Meaning, Lawful, added, dropped, without, element_at}
-use Rattle.index.specs.Outcomes.{Outcome, gives, refuses, room_outcome, given_room}
+use Rattle.index.specs.Meaning.{Meaning, Lawful, added, dropped, element_at}
+use Rattle.index.specs.Outcomes.{Outcome, gives, refuses, given_room}
 use Rattle.index.specs.Calls.{room_of, near_count, near_outcome, near_hits, near_list, drop_leaves_at}
 use Rattle.index.proofs.Outcomes.{near_done, room_left}
 use Rattle.links.specs.declared.Links.{Links}
@@ -66,21 +65,21 @@ module _ {E : Type 0} (dist : E → E → ℕ) (top : ℕ) (laws : MetricLaws to
   abbrev pub Fine : ℕ → List ℕ → Hit → Type 0
   Fine high ns h = (h.number ≤ high) × (h.distance ≤ 1048576) × Among h.number ns
 
-  fine_hits : (low high : ℕ) (xs : List (Sample E)) → Rising low high xs → All (Fine high (map (λ s. s.number) xs)) (hits dist q xs)
+  fine_hits : (low high : ℕ) (xs : List (Sample E)) → Rising low high xs → AllByRecursion (Fine high (map (λ s. s.number) xs)) (hits dist q xs)
   fine_hits low high [] r = tt
   fine_hits low high (x ∷ xs) r =
       all_put (Fine high (map (λ s. s.number) (x ∷ xs))) (hit_of dist q x) (hits dist q xs)
       (r.1, omega (arith, laws.bounded q x.element, laws.small), inl refl)
       (All-weaker (Fine high (map (λ s. s.number) xs)) (Fine high (map (λ s. s.number) (x ∷ xs))) (λ h f. (f.0, f.1, inr f.2)) (hits dist q xs) (fine_hits x.number high xs r.2))
 
-  pub fine_near : (m : Meaning E) → Lawful m → (k : ℕ) → All (Fine m.last (sample_numbers m)) (near_hits dist m q k)
+  pub fine_near : (m : Meaning E) → Lawful m → (k : ℕ) → AllByRecursion (Fine m.last (sample_numbers m)) (near_hits dist m q k)
   fine_near m law k = All-take (Fine m.last (sample_numbers m)) (near_count m k) (hits dist q m.standing) (fine_hits 0 m.last m.standing law.rising)
 
-all_unmap : {X Y : Type 0} (P : Y → Type 0) (f : X → Y) (xs : List X) → All P (map f xs) → All (λ x. P (f x)) xs
+all_unmap : {X Y : Type 0} (P : Y → Type 0) (f : X → Y) (xs : List X) → AllByRecursion P (map f xs) → AllByRecursion (λ x. P (f x)) xs
 all_unmap P f [] a = tt
 all_unmap P f (x ∷ xs) a = (a.0, all_unmap P f xs a.1)
 
-all_both : {X : Type 0} (P Q R : X → Type 0) → ((x : X) → P x → Q x → R x) → (xs : List X) → All P xs → All Q xs → All R xs
+all_both : {X : Type 0} (P Q R : X → Type 0) → ((x : X) → P x → Q x → R x) → (xs : List X) → AllByRecursion P xs → AllByRecursion Q xs → AllByRecursion R xs
 all_both P Q R f [] a b = tt
 all_both P Q R f (x ∷ xs) a b = (f x a.0 b.0, all_both P Q R f xs a.1 b.1)
 
@@ -112,9 +111,9 @@ module _ {I E : Type 0} (sound : I → Type 0) (meaning : I → Meaning E) (r : 
       pub held_count : own.count ≡ length (linked_hits dist passes (road_of meaning r) e)
       held_count = linked.count ∙ ap (λ z. length (filter (passes_hit passes e (meaning r.index)) z)) near
 
-      fine : All (Fine dist top laws e (meaning r.index).last (sample_numbers (meaning r.index))) (elders own)
+      fine : AllByRecursion (Fine dist top laws e (meaning r.index).last (sample_numbers (meaning r.index))) (elders own)
       fine =
-          let P : List Hit → Type 0 = λ z. All (Fine dist top laws e (meaning r.index).last (sample_numbers (meaning r.index))) z in
+          let P : List Hit → Type 0 = λ z. AllByRecursion (Fine dist top laws e (meaning r.index).last (sample_numbers (meaning r.index))) z in
           subst P (sym held) (all_kept_by (passes_hit passes e (meaning r.index)) (Fine dist top laws e (meaning r.index).last (sample_numbers (meaning r.index))) (near_hits dist (meaning r.index) e r.k) (fine_near dist top laws e (meaning r.index) law r.k))
 
       own_sound : Sound own
@@ -124,14 +123,14 @@ module _ {I E : Type 0} (sound : I → Type 0) (meaning : I → Meaning E) (r : 
         elder = All-weaker (Fine dist top laws e (meaning r.index).last (sample_numbers (meaning r.index))) (λ h. (h.number < own.number) × (h.distance ≤ 1048576)) (λ h f. (omega (arith, f.0, linked.number), f.1)) (elders own) fine;
       }
 
-      young : All (λ x. All (λ h. h.number < own.number) (elders x)) (take r.used r.links.now)
+      young : AllByRecursion (λ x. AllByRecursion (λ h. h.number < own.number) (elders x)) (take r.used r.links.now)
       young =
-          let P : List ℕ → Type 0 = λ z. All (λ n. n ≤ (meaning r.index).last) z in
-          all_both Sound (λ x. x.number ≤ (meaning r.index).last) (λ x. All (λ h. h.number < own.number) (elders x))
+          let P : List ℕ → Type 0 = λ z. AllByRecursion (λ n. n ≤ (meaning r.index).last) z in
+          all_both Sound (λ x. x.number ≤ (meaning r.index).last) (λ x. AllByRecursion (λ h. h.number < own.number) (elders x))
           (λ x s l. All-weaker (λ h. (h.number < x.number) × (h.distance ≤ 1048576)) (λ h. h.number < own.number) (λ h f. omega (arith, f.0, linked.number)) (elders x) s.elder)
           (take r.used r.links.now) o.records (all_unmap (λ n. n ≤ (meaning r.index).last) (λ x. x.number) (take r.used r.links.now) (subst P (sym o.numbered) (rising_bound 0 (meaning r.index).last (meaning r.index).standing law.rising)))
 
-      there : All (λ h. has (numbers (take r.used r.links.now)) h.number ≡ true) (elders own)
+      there : AllByRecursion (λ h. has (numbers (take r.used r.links.now)) h.number ≡ true) (elders own)
       there = All-weaker (Fine dist top laws e (meaning r.index).last (sample_numbers (meaning r.index))) (λ h. has (numbers (take r.used r.links.now)) h.number ≡ true) (λ h f. ap (λ z. has z h.number) o.numbered ∙ among_has (sample_numbers (meaning r.index)) h.number f.2) (elders own) fine
 
       module _ (t : Roadmap I) (stays : sound t.index) (ti : meaning t.index ≡ added (meaning r.index) e) (tk : t.k ≡ r.k) (tl : t.links.now ≡ set r.links.now r.used own) (tu : t.used ≡ r.used + 1) where
@@ -143,7 +142,7 @@ module _ {I E : Type 0} (sound : I → Type 0) (meaning : I → Meaning E) (r : 
 
         pub add_sound : RoadSound sound meaning t
         add_sound =
-            let P : List Links → Type 0 = λ z. All Sound z in
+            let P : List Links → Type 0 = λ z. AllByRecursion Sound z in
             record {
               index = stays;
               k_low = omega (arith, o.k_low, tk);
@@ -172,7 +171,7 @@ module _ {I E : Type 0} (sound : I → Type 0) (meaning : I → Meaning E) (r : 
 
     pub drop_sound : RoadSound sound meaning t
     drop_sound =
-        let P : List Links → Type 0 = λ z. All Sound z in
+        let P : List Links → Type 0 = λ z. AllByRecursion Sound z in
         record {
           index = stays;
           k_low = omega (arith, o.k_low, tk);
@@ -240,7 +239,7 @@ module _ {I E : Type 0} (sound : I → Type 0) (meaning : I → Meaning E) (r : 
     k_high = omega arith;
     used_bound = f.used_bound;
     room = room;
-    records = all_both (λ x. x.count ≡ 0) (λ x. length x.elders ≡ 8) Sound (λ x z p. record { count_bound = omega arith; places = p; elder = (let P : ℕ → Type 0 = λ n. All (λ h. (h.number < x.number) × (h.distance ≤ 1048576)) (take n x.elders) in subst P (sym z) tt) }) (take r.used r.links.now) f.unlinked f.places;
+    records = all_both (λ x. x.count ≡ 0) (λ x. length x.elders ≡ 8) Sound (λ x z p. record { count_bound = omega arith; places = p; elder = (let P : ℕ → Type 0 = λ n. AllByRecursion (λ h. (h.number < x.number) × (h.distance ≤ 1048576)) (take n x.elders) in subst P (sym z) tt) }) (take r.used r.links.now) f.unlinked f.places;
     numbered = f.numbered;
   }
 

@@ -1,6 +1,6 @@
 -- What each call of a roadmap tells and leaves, from what the roadmap means.
-use Rattle.std.specs.Prelude.{◌≡◌, ℕ, ◌+◌, ◌<◌, ◌≤◌, Bool, true, false, cond, List, [], ◌∷◌, ◌++◌, map, length, take, Some, None, filter, Option}
-use Rattle.std.specs.List.{AllByRecursion as All}
+use Rattle.std.specs.Prelude.{◌≡◌, ℕ, ◌+◌, ◌≤◌, Bool, false, List, [], ◌∷◌, ◌++◌, map, length, take, Some, None, filter, Option}
+use Rattle.std.specs.List.{AllByRecursion}
 use Rattle.hits.specs.declared.Hit.{Hit}
 use Rattle.chains.specs.declared.Edge.{Edge}
 use Rattle.chains.specs.Chains.{Island}
@@ -9,7 +9,7 @@ use Rattle.index.specs.Meaning.{Meaning, added, element_at}
 use Rattle.index.specs.Outcomes.{Outcome, gives, refuses, given_room}
 use Rattle.index.specs.Calls.{room_of, drop_leaves, near_count, near_hits}
 use Rattle.links.specs.declared.Links.{Links}
-use Rattle.links.specs.Records.{numbers, elders, Sound, edge_to, edges_without}
+use Rattle.links.specs.Records.{numbers, elders, edge_to, edges_without}
 use Rattle.graph.specs.Routes.{Routed}
 use Rattle.roadmap.specs.Roads.{Road, Stands, sample_numbers}
 
@@ -77,6 +77,6 @@ module _ {E : Type 0} where
   -- one record without edges for each standing sample
   pub record Filled (m : Meaning E) (used : ℕ) (links : List Links) : Type 0 where
     pub used_bound : used ≤ length links
-    pub unlinked : All (λ r. r.count ≡ 0) (take used links)
-    pub places : All (λ r. length r.elders ≡ 8) (take used links)
+    pub unlinked : AllByRecursion (λ r. r.count ≡ 0) (take used links)
+    pub places : AllByRecursion (λ r. length r.elders ≡ 8) (take used links)
     pub numbered : numbers (take used links) ≡ sample_numbers m

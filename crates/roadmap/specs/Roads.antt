@@ -1,7 +1,6 @@
 -- What a roadmap means, and which of its states are sound.
-use Rattle.std.specs.Prelude.{◌≡◌, ℕ, ◌<◌, ◌≤◌, ◌⊎◌, List, [], ◌∷◌, map, length, take, Some, None, Ok, Err, Option, Result}
-use Rattle.std.specs.List.{AllByRecursion as All}
-use Rattle.hits.specs.Samples.{Sample}
+use Rattle.std.specs.Prelude.{◌≡◌, ℕ, ◌<◌, ◌≤◌, ◌⊎◌, List, [], map, length, take, Some, None, Ok, Err, Option, Result}
+use Rattle.std.specs.List.{AllByRecursion}
 use Rattle.chains.specs.declared.Edge.{Edge}
 use Rattle.index.specs.Meaning.{Meaning, element_at}
 use Rattle.links.specs.Records.{numbers, number_at, Sound, edges_of}
@@ -39,7 +38,7 @@ module _ {I E : Type 0} (sound : I → Type 0) (meaning : I → Meaning E) where
     pub k_high : r.k ≤ 8
     pub used_bound : r.used ≤ length r.links.now
     pub room : (meaning r.index).capacity ≤ length r.links.now
-    pub records : All Sound (take r.used r.links.now)
+    pub records : AllByRecursion Sound (take r.used r.links.now)
     pub numbered : numbers (take r.used r.links.now) ≡ sample_numbers (meaning r.index)
 
   -- What is made: a roadmap without edges; or k is refused exactly if it is outside 1 to 8; or, if not, the records exactly

@@ -1,12 +1,12 @@
 -- Where a cost is known there is a chain that the rule chooses. Assumes nothing.
 use Rattle.std.proofs.Common.{◌≡◌, ℕ, zero, suc, ◌+◌, ◌<◌, ◌≤◌, ◌⊎◌, List, [], ◌∷◌, ◌++◌, length, get_or, take, sym, refl, ap, ◌∙◌, subst, inl, inr, add-one, arith}
-use Rattle.std.specs.List.{AllByRecursion as All}
+use Rattle.std.specs.List.{AllByRecursion}
 use Rattle.std.proofs.lemmas.List.{take_more, take_all}
 use Rattle.std.proofs.lemmas.Bool.{cases_lt}
 use Rattle.chains.specs.declared.Edge.{Edge}
 use Rattle.chains.specs.Chains.{Route}
 use Rattle.chains.specs.Edges.{edge, Linked, Inside}
-use Rattle.chains.specs.Costs.{none, step_cost, cost_at, Settled, Onward}
+use Rattle.chains.specs.Costs.{none, cost_at, Settled, Onward}
 use Rattle.chains.proofs.Settling as settling
 use Rattle.routing.specs.Walks.{onward_or}
 use Rattle.routing.proofs.Walking.{onward_none, onward_more}
@@ -34,7 +34,7 @@ onward_any costs at edges =
     let P : List Edge → Type 0 = λ z. Onward z costs at o.0 in
     (o.0, subst P (take_all (length edges) edges (omega arith)) o.1)
 
-module _ (edges : List Edge) (goal : ℕ) (costs : List ℕ) (few : length costs ≤ 1024) (all : All (Inside (length costs)) edges) (settled : Settled edges goal costs) where
+module _ (edges : List Edge) (goal : ℕ) (costs : List ℕ) (few : length costs ≤ 1024) (all : AllByRecursion (Inside (length costs)) edges) (settled : Settled edges goal costs) where
   -- some chain is the chosen one
   pub record ChosenFrom (at : ℕ) : Type 0 where
     pub numbers : List ℕ

@@ -1,7 +1,7 @@
 -- Lowering costs, edge by edge. Assumes nothing.
 use Rattle.std.proofs.Common.{◌≡◌, ℕ, zero, suc, ◌+◌, ◌<◌, ◌≤◌, Bool, true, false, ◌||◌, ◌⊎◌, List, [], ◌∷◌, ◌++◌, length, get_or, take, set, sum, sym, refl, ap, ◌∙◌, subst, inl, inr, arith, length-set}
-use Rattle.std.specs.List.{AllByRecursion as All}
-use Rattle.std.proofs.lemmas.List.{get_or_default, get_or_past, get_or-set_same, get_or-set_other, take_more, take_all}
+use Rattle.std.specs.List.{AllByRecursion}
+use Rattle.std.proofs.lemmas.List.{get_or_default, get_or_past, get_or-set_same, get_or-set_other, take_more}
 use Rattle.std.proofs.lemmas.List.Sums.{sum_by-set}
 use Rattle.std.proofs.ByRecursion.{All-push}
 use Rattle.std.proofs.lemmas.Bool.{cases_eq, cases_lt, both_ways}
@@ -90,7 +90,7 @@ module _ (edges : List Edge) (before middle after : List ℕ) (i : ℕ) (e : Edg
   }
     where
       P : List Edge → Type 0
-      P = λ z. All (SettledAt before) z
+      P = λ z. AllByRecursion (SettledAt before) z
 
       here : Among e edges
       here = (let Q : Edge → Type 0 = λ z. Among z edges in subst Q (sym is) (among_at edges i l))
@@ -103,7 +103,7 @@ module _ (edges : List Edge) (before middle after : List ℕ) (i : ℕ) (e : Edg
       go_same false true x y z = absurd (both_ways true z refl)
       go_same false false x y z = y.same refl ∙ x.same refl
 
-      go_settled : (p q : Bool) → Swept edges (take i edges) before p middle → Relaxed e middle q after → (p || q) ≡ false → All (SettledAt before) (take i edges ++ (e ∷ []))
+      go_settled : (p q : Bool) → Swept edges (take i edges) before p middle → Relaxed e middle q after → (p || q) ≡ false → AllByRecursion (SettledAt before) (take i edges ++ (e ∷ []))
       go_settled true q x y z = absurd (both_ways true z refl)
       go_settled false true x y z = absurd (both_ways true z refl)
       go_settled false false x y z =

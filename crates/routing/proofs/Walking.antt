@@ -1,8 +1,8 @@
 -- The walk along a chain of least cost, step by step. Assumes nothing.
-use Rattle.std.proofs.Common.{◌≡◌, ℕ, zero, suc, ◌+◌, ◌-◌, ◌*◌, ◌%◌, ◌<◌, ◌≤◌, Bool, true, false, cond, ◌&&◌, eqb, ltb, ◌⊎◌, List, [], ◌∷◌, ◌++◌, length, get_or, take, drop, set, sym, refl, ap, ◌∙◌, subst, inl, inr, ⊎_elim, arith, length-append}
-use Rattle.std.specs.List.{AllByRecursion as All}
-use Rattle.std.proofs.lemmas.List.{get_or_default, take_more, append_assoc, append-nil, set-append_right, drop_more, drop-drop}
-use Rattle.std.proofs.lemmas.Bool.{cases_eq, cases_lt, eq-eqb, ne_eqb, eqb-true, ltb-true, and_parts, and_cases, eqb-false, ltb-false, cases_Bool, both_ways}
+use Rattle.std.proofs.Common.{◌≡◌, ℕ, ◌+◌, ◌-◌, ◌*◌, ◌%◌, ◌<◌, ◌≤◌, Bool, true, false, cond, ◌&&◌, eqb, ltb, ◌⊎◌, List, [], ◌∷◌, ◌++◌, length, get_or, drop, set, sym, refl, ap, ◌∙◌, subst, inl, inr, ⊎_elim, arith, length-append}
+use Rattle.std.specs.List.{AllByRecursion}
+use Rattle.std.proofs.lemmas.List.{get_or_default, append_assoc, set-append_right, drop_more}
+use Rattle.std.proofs.lemmas.Bool.{cases_eq, eq-eqb, ne_eqb, eqb-true, ltb-true, eqb-false, ltb-false}
 use Rattle.hits.specs.Samples.{Among}
 use Rattle.hits.specs.Lists.{over}
 use Rattle.chains.specs.declared.Edge.{Edge}
@@ -166,7 +166,7 @@ pub record Walking (edges : List Edge) (costs : List ℕ) (start goal : ℕ) (ol
   pub writes : list ≡ over places old
   pub back : (ns : List ℕ) (l : ℕ) → Route (λ i. i < length costs) (Linked edges) at goal ns l → (t : ℕ) × Route (λ i. i < length costs) (Linked edges) start goal (places ++ ns) t
 
-module _ (edges : List Edge) (goal : ℕ) (costs : List ℕ) (few : length costs ≤ 1024) (all : All (Inside (length costs)) edges) (settled : Settled edges goal costs) (start : ℕ) (old : List ℕ) where
+module _ (edges : List Edge) (goal : ℕ) (costs : List ℕ) (few : length costs ≤ 1024) (all : AllByRecursion (Inside (length costs)) edges) (settled : Settled edges goal costs) (start : ℕ) (old : List ℕ) where
   pub walk_starts : cost_at costs start < none → Walking edges costs start goal old old start 0
   walk_starts l = record { reached = l; left = omega arith; places = []; count = refl; writes = refl; back = λ ns t r. (t, r) }
 

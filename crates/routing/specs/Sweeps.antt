@@ -1,6 +1,6 @@
 -- What lowering costs does, edge by edge.
-use Rattle.std.specs.Prelude.{◌≡◌, ℕ, ◌+◌, ◌<◌, ◌≤◌, Bool, true, false, List, length, take, sum}
-use Rattle.std.specs.List.{AllByRecursion as All}
+use Rattle.std.specs.Prelude.{◌≡◌, ℕ, ◌+◌, ◌<◌, ◌≤◌, Bool, true, false, List, sum}
+use Rattle.std.specs.List.{AllByRecursion}
 use Rattle.hits.specs.Samples.{Among}
 use Rattle.chains.specs.declared.Edge.{Edge}
 use Rattle.chains.specs.Edges.{Linked}
@@ -25,5 +25,5 @@ pub record Relaxed (e : Edge) (before : List ℕ) (lowered : Bool) (after : List
 pub record Swept (all done : List Edge) (before : List ℕ) (lowered : Bool) (after : List ℕ) : Type 0 where
   pub attained : (goal : ℕ) → Attained all goal before → Attained all goal after
   pub same : lowered ≡ false → after ≡ before
-  pub settled : lowered ≡ false → All (SettledAt before) done
+  pub settled : lowered ≡ false → AllByRecursion (SettledAt before) done
   pub falls : lowered ≡ true → sum after < sum before

@@ -2,7 +2,7 @@
 #![tactic(auto)]
 
 ghost use Rattle.std.specs.Prelude.{◌≡◌, ℕ, ◌+◌, ◌-◌, ◌%◌, ◌<◌, ◌≤◌, cond, ◌&&◌, length};
-ghost use Rattle.std.specs.List.{AllByRecursion as All};
+ghost use Rattle.std.specs.List.{AllByRecursion};
 ghost use Rattle.chains.specs.Edges.{Inside};
 ghost use Rattle.chains.specs.Costs.{none, step_cost, cost_at, Settled, Onward};
 ghost use Rattle.routing.specs.Sweeps.{Lowered, Relaxed, Swept};
@@ -51,7 +51,7 @@ fn relax(costs: &mut [u64], edge: &Edge) -> bool
 
 // Relaxes every edge once. Whether a cost was lowered.
 fn sweep(costs: &mut [u64], edges: &[Edge]) -> bool
-    requires { All (Inside (length costs.old)) edges.now }
+    requires { AllByRecursion (Inside (length costs.old)) edges.now }
     ensures { Swept edges.now edges.now costs.old result costs.new }
 {
     let mut lowered = false;
@@ -64,7 +64,7 @@ fn sweep(costs: &mut [u64], edges: &[Edge]) -> bool
 
 // Finds for every place the least cost of a chain to the goal.
 pub fn settle(costs: &mut [u64], edges: &[Edge], goal: usize)
-    requires { (goal < length costs.old) × (All (Inside (length costs.old)) edges.now) }
+    requires { (goal < length costs.old) × (AllByRecursion (Inside (length costs.old)) edges.now) }
     ensures { Settled edges.now goal costs.new }
 {
     for i in 0..costs.len() {
@@ -98,7 +98,7 @@ fn onward_or(costs: &[u64], at: usize, from: usize, to: usize, apart: u32, best:
 
 // The smallest next place on a chain of least cost from `at`.
 fn onward(costs: &[u64], edges: &[Edge], at: usize) -> usize
-    requires { (at < length costs.now) × (All (Inside (length costs.now)) edges.now) }
+    requires { (at < length costs.now) × (AllByRecursion (Inside (length costs.now)) edges.now) }
     ensures { Onward edges.now costs.now at result }
 {
     let mut best = costs.len();
@@ -113,7 +113,7 @@ fn onward(costs: &[u64], edges: &[Edge], at: usize) -> usize
 
 // Writes the places of the chosen chain from `start` to the goal. The list has room for them.
 pub fn walk(costs: &[u64], edges: &[Edge], start: usize, goal: usize, list: &mut [u16])
-    requires inside { (All (Inside (length costs.now)) edges.now) × (length costs.now ≤ 1024) }
+    requires inside { (AllByRecursion (Inside (length costs.now)) edges.now) × (length costs.now ≤ 1024) }
     requires settled { Settled edges.now goal costs.now }
     requires reached { cost_at costs.now start < none }
     requires room { cost_at costs.now start % 65536 < length list.old }

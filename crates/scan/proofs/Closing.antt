@@ -1,10 +1,10 @@
 -- Finding a row, and closing up over one. Assumes nothing.
-use Rattle.std.proofs.Common.{◌≡◌, ℕ, zero, suc, ◌+◌, ◌-◌, ◌<◌, ◌≤◌, Bool, true, false, cond, eqb, List, [], ◌∷◌, ◌++◌, map, length, get_or, take, drop, Some, None, Option, sym, refl, ap, ◌∙◌, arith, length-append, length-drop, length-take, eq-eqb, ne_eqb}
+use Rattle.std.proofs.Common.{◌≡◌, ℕ, zero, suc, ◌+◌, ◌-◌, ◌<◌, ◌≤◌, cond, List, [], ◌∷◌, ◌++◌, length, get_or, take, drop, Some, None, sym, ap, ◌∙◌, arith, length-append, length-drop, length-take, eq-eqb, ne_eqb}
 use borrow.Rule.Slice.PartMut.{put_mid}
 use Rattle.std.proofs.lemmas.List.{append_assoc, at_drop_more, at_drop_all, drop-drop, take_at, take-take, get_or_default}
 use Rattle.std.proofs.lemmas.Slice.{between_is}
 use Rattle.std.specs.List.{HoldsAt}
-use Rattle.hits.specs.Samples.{Sample, Rising}
+use Rattle.hits.specs.Samples.{Rising}
 use Rattle.index.specs.Meaning.{element_at, without}
 use Rattle.index.proofs.Standing.{without_below}
 use Rattle.scan.specs.declared.rows.Row.{Row}

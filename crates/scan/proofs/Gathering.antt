@@ -1,9 +1,9 @@
 -- Row by row, the hits within a radius. Assumes nothing.
-use Rattle.std.proofs.Common.{◌≡◌, ℕ, zero, suc, ◌+◌, ◌<◌, ◌≤◌, min, List, [], ◌∷◌, ◌++◌, map, length, get_or, take, sym, refl, ap, ◌∙◌, subst, arith}
+use Rattle.std.proofs.Common.{◌≡◌, ℕ, zero, suc, ◌+◌, ◌<◌, ◌≤◌, min, List, [], ◌∷◌, ◌++◌, length, get_or, take, sym, refl, ap, ◌∙◌, subst, arith}
 use Rattle.std.proofs.lemmas.List.{take_more, take_all, map_push, take-map}
 use Rattle.hits.specs.declared.Hit.{Hit}
 use Rattle.hits.specs.Order.{InOrder, put, inside}
-use Rattle.hits.specs.Samples.{Sample, Rising, hit_of, hits}
+use Rattle.hits.specs.Samples.{Rising, hit_of, hits}
 use Rattle.hits.proofs.Ranking.{hits_push, hits_in_order}
 use Rattle.hits.proofs.Keeping.{inside_put, inside_put_far, inside_in_order, keep_one, keep_count}
 use Rattle.hits.proofs.Putting.{length_put}

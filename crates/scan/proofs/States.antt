@@ -1,6 +1,6 @@
 -- The states of a scan before and after a call. Assumes nothing.
-use Rattle.std.proofs.Common.{◌≡◌, ℕ, ◌+◌, ◌-◌, ◌<◌, ◌≤◌, min, List, [], ◌∷◌, ◌++◌, map, length, take, drop, set, Some, sym, refl, ap, ◌∙◌, subst, arith, length-set, length-take}
-use Rattle.std.specs.List.{HoldsAt, AllByRecursion as All}
+use Rattle.std.proofs.Common.{◌≡◌, ℕ, ◌+◌, ◌-◌, ◌<◌, ◌≤◌, min, List, [], ◌∷◌, ◌++◌, length, take, drop, set, Some, sym, ap, ◌∙◌, subst, arith, length-set, length-take}
+use Rattle.std.specs.List.{HoldsAt, AllByRecursion}
 use Rattle.std.proofs.lemmas.List.{length-map, map_push, take_more_set, get_or-take, length-take-le, append_assoc, drop-append-le, take-append-drop}
 use Rattle.metric.specs.Laws.{MetricLaws}
 use Rattle.hits.specs.declared.Hit.{Hit}
@@ -50,7 +50,7 @@ pushed rows used row l = ap samples (take_more_set rows used row l) ∙ map_push
 pub all_within : {E : Type 0} {top : ℕ} (dist : E → E → ℕ) → MetricLaws top dist → (q : E) (xs : List (Sample E)) → inside 4294967295 (hits dist q xs) ≡ hits dist q xs
 all_within {E} dist laws q xs = inside_all 4294967295 (hits dist q xs) (each xs)
   where
-    each : (xs : List (Sample E)) → All (λ h. h.distance ≤ 4294967295) (hits dist q xs)
+    each : (xs : List (Sample E)) → AllByRecursion (λ h. h.distance ≤ 4294967295) (hits dist q xs)
     each [] = tt
     each (x ∷ xs) = all_put (λ h. h.distance ≤ 4294967295) (hit_of dist q x) (hits dist q xs) (omega (arith, laws.bounded q x.element, laws.small)) (each xs)
 

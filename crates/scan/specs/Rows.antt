@@ -1,5 +1,5 @@
 -- The samples that rows hold, and rows closed up over one that is taken out.
-use Rattle.std.specs.Prelude.{◌≡◌, ℕ, ◌-◌, ◌<◌, List, [], ◌∷◌, ◌++◌, map, length, take, drop, Some, None, Option}
+use Rattle.std.specs.Prelude.{◌≡◌, ℕ, ◌-◌, ◌<◌, List, ◌++◌, map, length, take, drop, Some, None, Option}
 use Rattle.std.specs.List.{HoldsAt}
 use Rattle.hits.specs.Samples.{Sample}
 use Rattle.index.specs.Meaning.{element_at}

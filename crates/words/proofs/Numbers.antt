@@ -1,20 +1,20 @@
 -- The number that a word of digits writes. Assumes nothing.
-use Rattle.std.proofs.Common.{◌≡◌, ℕ, ◌+◌, ◌-◌, ◌*◌, ◌<◌, ◌≤◌, Bool, true, false, cond, not, ◌&&◌, ◌||◌, eqb, ltb, leb, ◌⊎◌, List, [], ◌∷◌, length, get_or, drop, Some, None, Option, sym, refl, ap, ◌∙◌, inl, inr, ⊎_elim, arith, eq-eqb, ne_eqb}
-use Rattle.std.proofs.lemmas.Bool.{leb-true, and_parts, and_from, and_left, and_right, le-leb, lt-leb, lt-ltb, le-ltb, cases_eq, or_left, or_right, or_from, not_from_true, not_from_false}
+use Rattle.std.proofs.Common.{◌≡◌, ℕ, ◌+◌, ◌-◌, ◌*◌, ◌<◌, ◌≤◌, true, false, cond, not, ◌&&◌, ◌||◌, eqb, ltb, leb, ◌⊎◌, List, [], ◌∷◌, length, get_or, drop, Some, None, sym, refl, ap, ◌∙◌, ⊎_elim, arith, eq-eqb, ne_eqb}
+use Rattle.std.proofs.lemmas.Bool.{leb-true, and_parts, and_from, and_left, and_right, le-leb, lt-leb, lt-ltb, le-ltb, or_left, or_right, or_from, not_from_true, not_from_false}
 use Rattle.std.proofs.lemmas.List.{at_drop_more, at_drop_all}
 use Rattle.std.specs.Str.Parse.{digits_value, digits_value_after}
-use Rattle.std.specs.Char.{digit_value as digitValue}
+use Rattle.std.specs.Char.{digit_value}
 use Rattle.level_theory.specs.Words.{letter, digit, all_bytes, plain, number_word}
 
 pub digit_range : (b : ℕ) → digit b ≡ true → (48 ≤ b) × (b ≤ 57)
 digit_range b e = let h = and_parts (leb 48 b) (leb b 57) e in (leb-true 48 b h.0, leb-true b 57 h.1)
 
-pub digit_value : (b : ℕ) → 48 ≤ b → b ≤ 57 → digitValue b ≡ b - 48
-digit_value b l h = let p : ltb b 48 ≡ false = le-ltb b 48 l in let q : ltb b 58 ≡ true = lt-ltb b 58 (omega arith) in rw (p, q)
+pub digit_value_lem : (b : ℕ) → 48 ≤ b → b ≤ 57 → digit_value b ≡ b - 48
+digit_value_lem b l h = let p : ltb b 48 ≡ false = le-ltb b 48 l in let q : ltb b 58 ≡ true = lt-ltb b 58 (omega arith) in rw (p, q)
 
 pub grows : (n : ℕ) (cs : List ℕ) → n ≤ digits_value_after 10 n cs
 grows n [] = omega arith
-grows n (c ∷ cs) = omega (arith, grows (n * 10 + digitValue c) cs)
+grows n (c ∷ cs) = omega (arith, grows (n * 10 + digit_value c) cs)
 
 module _ (w : List ℕ) (i : ℕ) (h : i < length w) where
   pub this_digit : all_bytes digit (drop i w) ≡ true → (48 ≤ get_or w i 0) × (get_or w i 0 ≤ 57)
@@ -26,7 +26,7 @@ module _ (w : List ℕ) (i : ℕ) (h : i < length w) where
   pub next_value : (n : ℕ) → all_bytes digit (drop i w) ≡ true → digits_value_after 10 n (drop i w) ≡ digits_value_after 10 (n * 10 + (get_or w i 0 - 48)) (drop (i + 1) w)
   next_value n a =
       let d = this_digit a in
-      at_drop_more (digits_value_after 10 n) w i 0 h ∙ ap (λ v. digits_value_after 10 (n * 10 + v) (drop (i + 1) w)) (digit_value (get_or w i 0) d.0 d.1)
+      at_drop_more (digits_value_after 10 n) w i 0 h ∙ ap (λ v. digits_value_after 10 (n * 10 + v) (drop (i + 1) w)) (digit_value_lem (get_or w i 0) d.0 d.1)
 
 pub last_value : (w : List ℕ) (i n : ℕ) → length w ≤ i → digits_value_after 10 n (drop i w) ≡ n
 last_value w i n h = at_drop_all (digits_value_after 10 n) w i h

@@ -1,5 +1,5 @@
 -- Taking words by tokens, and a whole line in parts. Assumes nothing.
-use Rattle.std.proofs.Common.{◌≡◌, ℕ, suc, ◌+◌, ◌<◌, Bool, true, false, cond, eqb, List, [], ◌∷◌, ◌++◌, length, Some, None, Option, sym, refl, ap, ◌∙◌, arith}
+use Rattle.std.proofs.Common.{◌≡◌, ℕ, ◌+◌, ◌<◌, true, false, cond, List, [], ◌∷◌, ◌++◌, length, Some, None, Option, sym, refl, ap, ◌∙◌, arith}
 use Rattle.level_theory.specs.Words.{letter, digit, all_bytes, same_bytes, number_word, Want, the_word, a_number, Taken, right, wrong, with_number, take_words}
 use Rattle.words.specs.Tokens.{Word, letters, digits, amiss, word_of}
 use Rattle.words.specs.Cursors.{first_word, words_after, place_after, Part, got, lacks, part_number, part}

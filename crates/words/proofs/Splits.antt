@@ -1,7 +1,6 @@
 -- Where a text is cut. Assumes nothing.
-use Rattle.std.proofs.Common.{◌≡◌, ℕ, zero, suc, ◌+◌, ◌<◌, ◌≤◌, Bool, true, false, cond, eqb, List, [], ◌∷◌, length, get_or, take, drop, Ok, Err, Result, sym, refl, ap, ◌∙◌, suc-le-suc, zero-le, add-one, arith, eq-eqb, ne_eqb}
+use Rattle.std.proofs.Common.{◌≡◌, ℕ, zero, suc, ◌+◌, ◌<◌, true, false, cond, eqb, List, [], ◌∷◌, length, get_or, take, drop, Err, sym, refl, ap, ◌∙◌, add-one, arith, eq-eqb, ne_eqb}
 use Rattle.level_theory.specs.Words.{onto, split}
-use Rattle.words.specs.declared.cursor.Misplaced.{Misplaced}
 use Rattle.words.specs.Cursors.{end_of}
 
 split_same : (c b : ℕ) (bs : List ℕ) → b ≡ c → split c (b ∷ bs) ≡ [] ∷ split c bs

@@ -1,4 +1,4 @@
-use Rattle.std.proofs.Common.{◌≡◌, nat_abs, ap, ◌∙◌, arith, w32}
+use Rattle.std.proofs.Common.{nat_abs, ap, ◌∙◌, arith, w32}
 use Rattle.std.proofs.lemmas.Int.{to_z-of_z}
 use Rattle.arm.specs.Turns.{swing_of}
 use Rattle.arm.specs.Swings.{swing_bound}

@@ -1,4 +1,4 @@
-use Rattle.std.proofs.Common.{◌≡◌, arith}
+use Rattle.std.proofs.Common.{arith}
 use Rattle.std.proofs.lemmas.Int.{ints}
 use Rattle.arm.specs.Turns.{turn_by, turn_of}
 use Rattle.arm.proofs.turn.Goals as goal

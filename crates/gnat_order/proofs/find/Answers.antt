@@ -1,4 +1,4 @@
-use Rattle.std.proofs.Common.{◌≡◌, ℕ, ◌+◌, ◌/◌, ◌<◌, ◌≤◌, get_or, sym, ◌∙◌, arith}
+use Rattle.std.proofs.Common.{◌+◌, ◌/◌, ◌<◌, ◌≤◌, sym, ◌∙◌, arith}
 use Rattle.gnat_order.proofs.Numbers.{may_read, was_read, smaller_before, larger_behind, not_listed, larger_from}
 use Rattle.gnat_order.proofs.find.Goals as goal
 use Rattle.gnat_order.proofs.find.Goals.{else-low-standing-via-then-low-standing+else-number_at-number-2, else-low-standing-via-else-low-standing}

@@ -1,6 +1,6 @@
-use Rattle.std.proofs.Common.{◌≡◌, ℕ, suc, ◌+◌, ◌-◌, ◌<◌, ◌≤◌, ◌∷◌, ◌++◌, length, get_or, take, drop, set, sym, refl, ap, ◌∙◌, arith}
+use Rattle.std.proofs.Common.{◌≡◌, suc, ◌+◌, ◌-◌, ◌<◌, ◌≤◌, ◌∷◌, ◌++◌, length, get_or, take, drop, set, sym, ap, ◌∙◌, arith}
 use Rattle.std.proofs.lemmas.List.{length-map}
-use Rattle.gnat_order.specs.Order.{places, placed, behind}
+use Rattle.gnat_order.specs.Order.{places, placed}
 use Rattle.gnat_order.proofs.Places.{place_of, placed_own, places_placed, put_next, sliding, slid_none, slid_read, slid_more, slid_write, length_slid}
 use Rattle.gnat_order.proofs.move_behind.Goals as goal
 

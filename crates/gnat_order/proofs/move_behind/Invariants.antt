@@ -1,4 +1,4 @@
-use Rattle.std.proofs.Common.{◌≡◌, ◌≤◌}
+use Rattle.std.proofs.Common.{◌≡◌}
 use Rattle.gnat_order.specs.Order.{places, placed}
 use Rattle.gnat_order.proofs.Places.{sliding}
 use Rattle.gnat_order.proofs.move_behind.Given as goal

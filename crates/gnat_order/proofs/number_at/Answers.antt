@@ -1,6 +1,5 @@
-use Rattle.std.proofs.Common.{◌≡◌, ℕ, ◌<◌, length, get_or, sym, ◌∙◌, subst}
+use Rattle.std.proofs.Common.{◌≡◌, ◌<◌, length, sym, ◌∙◌, subst}
 use Rattle.gnat_rows.specs.Rows.{HasRow}
-use Rattle.gnat_order.specs.Order.{places}
 use Rattle.gnat_order.proofs.Places.{place_of}
 use Rattle.gnat_order.proofs.number_at.Goals as goal
 

@@ -1,4 +1,3 @@
-use Rattle.std.proofs.Common.{arith}
 use Rattle.graph.proofs.Surveying.{first_found, first_named}
 use Rattle.graph.proofs.first_number.Goals as goal
 

@@ -1,8 +1,7 @@
-use Rattle.std.proofs.Common.{◌≡◌, ℕ, ◌+◌, ◌-◌, ◌/◌, ◌%◌, ◌<◌, ◌≤◌, List, length, get_or, take, sym, refl, ◌∙◌, subst, arith}
-use Rattle.std.specs.List.{AllByRecursion as All}
-use Rattle.chains.specs.declared.Edge.{Edge}
+use Rattle.std.proofs.Common.{◌≡◌, ℕ, ◌-◌, length, take, refl, subst, arith}
+use Rattle.std.specs.List.{AllByRecursion}
 use Rattle.chains.specs.Edges.{Inside}
-use Rattle.chains.specs.Costs.{none, Settled}
+use Rattle.chains.specs.Costs.{Settled}
 use Rattle.routing.specs.Walks.{Walked}
 use Rattle.graph.proofs.Surveying.{routed_apart, routed_short, routed_written, walked_inside, reached, room, count_small, length_small, inside, few}
 use Rattle.graph.proofs.route_in.Goals as goal
@@ -22,7 +21,7 @@ walk-requires c =
     let es = c.survey-made.new.edges in
     let costs = c.survey-made.new.costs in
     let e : c.survey-made.result ≡ c.survey-made.result - 0 = omega arith in
-    let P : ℕ → Type 0 = λ z. All (Inside (length costs)) (take z es) in
+    let P : ℕ → Type 0 = λ z. AllByRecursion (Inside (length costs)) (take z es) in
     let Q : ℕ → Type 0 = λ z. Settled (take z es) c.args.goal costs in
     record {
       inside = (subst P e (inside links c.requires.ends.0 c.args.goal es c.survey-made.result costs c.survey-made.ensures), few links c.requires.ends.0 c.args.goal es c.survey-made.result costs c.survey-made.ensures);

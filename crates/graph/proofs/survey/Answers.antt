@@ -1,5 +1,5 @@
-use Rattle.std.proofs.Common.{◌≡◌, ℕ, ◌-◌, List, length, take, ◌∙◌, subst, arith}
-use Rattle.std.specs.List.{AllByRecursion as All}
+use Rattle.std.proofs.Common.{◌≡◌, ℕ, ◌-◌, length, take, ◌∙◌, subst, arith}
+use Rattle.std.specs.List.{AllByRecursion}
 use Rattle.chains.specs.Edges.{Inside}
 use Rattle.chains.specs.Costs.{Settled}
 use Rattle.graph.proofs.survey.Goals as goal
@@ -9,8 +9,8 @@ slice_bounds-settle-end c = let k = c.resolve-made.auto.edges in omega (arith, c
 
 pub settle-requires : goal.settle-requires
 settle-requires c =
-    let P : ℕ → Type 0 = λ k. All (Inside k) (take (c.resolve-made.result - 0) c.resolve-made.new.edges) in
-    let Q : ℕ → Type 0 = λ k. All (Inside (length c.args.links.now)) (take k c.resolve-made.new.edges) in
+    let P : ℕ → Type 0 = λ k. AllByRecursion (Inside k) (take (c.resolve-made.result - 0) c.resolve-made.new.edges) in
+    let Q : ℕ → Type 0 = λ k. AllByRecursion (Inside (length c.args.links.now)) (take k c.resolve-made.new.edges) in
     let e : c.resolve-made.result ≡ c.resolve-made.result - 0 = omega arith in
     let l : length c.args.links.now ≡ length c.args.costs.now = omega (arith, c.requires.1.1.0) in
     (omega (arith, c.requires.1.0, c.requires.1.1.0), subst P l (subst Q e c.resolve-made.ensures.inside))

@@ -1,6 +1,5 @@
-use Rattle.std.proofs.Common.{◌≡◌, refl, ap}
-use Rattle.index.specs.Outcomes.{gives}
-use Rattle.history_theory.specs.History.{nears, withins, names, leads, reply_of}
+use Rattle.std.proofs.Common.{refl, ap}
+use Rattle.history_theory.specs.History.{nears, reply_of}
 use Rattle.history.proofs.Asking.{does_as, near_does, within_does, island_does, route_does}
 use Rattle.history.proofs.ask.Goals as goal
 

@@ -1,4 +1,4 @@
-use Rattle.std.proofs.Common.{◌≡◌, ℕ, ◌≤◌, length, sym, refl, ap, ◌∙◌, subst, inl, inr, arith}
+use Rattle.std.proofs.Common.{◌≡◌, ℕ, ◌≤◌, sym, refl, ap, subst, inl, inr, arith}
 use Rattle.roadmap.specs.Roads.{road_of}
 use Rattle.history_theory.specs.History.{start}
 use Rattle.history.specs.Turns.{Lent, lent, Ran}

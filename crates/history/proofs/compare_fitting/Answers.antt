@@ -1,9 +1,5 @@
-use Rattle.std.proofs.Common.{◌≡◌, ℕ, ◌≤◌, length, sym, refl, ap, ◌∙◌, subst, inl, inr, arith}
+use Rattle.std.proofs.Common.{◌≡◌, ℕ, length, sym, refl, ap, ◌∙◌, inl, inr, arith}
 use Rattle.std.proofs.lemmas.Result.{err_from_is_err_and}
-use Rattle.roadmap.specs.Roads.{road_of}
-use Rattle.history_theory.specs.History.{start}
-use Rattle.history.specs.Turns.{Lent, lent, Ran}
-use Rattle.history_theory.proofs.Reaching.{reached_new}
 use Rattle.history.specs.Fitting.{unless, fitting}
 use Rattle.history.proofs.Fitting.{fitting_lists}
 use Rattle.history.proofs.Playing.{judged_fit, judged_unfit}

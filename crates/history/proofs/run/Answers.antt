@@ -1,4 +1,4 @@
-use Rattle.std.proofs.Common.{◌<◌, length, refl, arith, length-set, rules}
+use Rattle.std.proofs.Common.{◌<◌, length, arith, length-set, rules}
 use Rattle.history.proofs.Asking.{ran_none, ran_more, ran_all}
 use Rattle.history.proofs.run.Goals as goal
 

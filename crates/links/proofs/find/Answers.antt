@@ -1,5 +1,4 @@
-use Rattle.std.proofs.Common.{◌≡◌, ℕ, ◌+◌, ◌-◌, ◌/◌, ◌<◌, ◌≤◌, [], length, sym, ◌∙◌, arith}
-use Rattle.links.specs.Records.{number_at}
+use Rattle.std.proofs.Common.{ℕ, ◌+◌, ◌-◌, ◌/◌, ◌<◌, [], length, sym, ◌∙◌, arith}
 use Rattle.links.proofs.Resolving.{number_is, before_middle, from_middle, nowhere}
 use Rattle.links.proofs.find.Goals as goal
 

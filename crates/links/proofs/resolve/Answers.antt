@@ -1,5 +1,4 @@
-use Rattle.std.proofs.Common.{◌≡◌, ◌≤◌, List, [], length, subst, arith}
-use Rattle.links.specs.Records.{Resolved}
+use Rattle.std.proofs.Common.{[], arith}
 use Rattle.links.proofs.Resolving.{none_resolved, one_resolved, all_resolved}
 use Rattle.links.proofs.resolve.Goals as goal
 

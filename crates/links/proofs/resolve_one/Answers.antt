@@ -1,10 +1,7 @@
-use Rattle.std.proofs.Common.{◌≡◌, ℕ, ◌+◌, ◌<◌, ◌≤◌, List, [], length, get_or, take, sym, refl, ap, ◌∙◌, subst, arith, length-take}
-use Rattle.std.proofs.lemmas.List.{get_or_default, get_or-take}
-use Rattle.std.proofs.ByRecursion.{All-get_or}
+use Rattle.std.proofs.Common.{◌≡◌, ℕ, ◌+◌, ◌<◌, [], length, get_or, sym, subst, arith}
+use Rattle.std.proofs.lemmas.List.{get_or_default}
 use Rattle.hits.specs.declared.Hit.{Hit}
-use Rattle.chains.specs.declared.Edge.{Edge}
 use Rattle.links.specs.declared.Links.{Links}
-use Rattle.links.specs.Records.{Sound, elders}
 use Rattle.links.proofs.Resolving.{SoFar, number_is, none_so_far, so_far_not, so_far_more, so_far_as, one_more, record_sound, elder_short}
 use Rattle.links.proofs.resolve_one.Goals as goal
 use Rattle.links.proofs.resolve_one.Goals.{in-Some, in_default}

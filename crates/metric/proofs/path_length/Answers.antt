@@ -1,4 +1,4 @@
-use Rattle.std.proofs.Common.{◌≡◌, ℕ, ◌+◌, ◌-◌, length, drop, ap, ◌∙◌, arith}
+use Rattle.std.proofs.Common.{◌≡◌, ◌+◌, ◌-◌, drop, arith}
 use Rattle.metric.specs.Paths.{path_length}
 use Rattle.metric.proofs.Steps.{path_turn, path_end, path_fits, measured_short}
 use Rattle.metric.proofs.path_length.Given.{Over}

@@ -1,6 +1,6 @@
-use Rattle.std.proofs.Common.{◌≡◌, ℕ, ◌+◌, ◌<◌, ◌≤◌, List, length, sym, refl, ap, subst, arith}
+use Rattle.std.proofs.Common.{◌+◌, arith}
 use Rattle.roadmap.proofs.Linking.{element_none, element_some}
-use Rattle.roadmap.proofs.Filling.{Filling, fill_starts, fill_ends, fill_not, fill_more, fill_room, filling_as}
+use Rattle.roadmap.proofs.Filling.{fill_starts, fill_ends, fill_not, fill_more, fill_room, filling_as}
 use Rattle.roadmap.proofs.fill_in.Goals as goal
 use Rattle.roadmap.proofs.fill_in.Goals.{in-Ok, in_default}
 

@@ -1,8 +1,8 @@
-use Rattle.std.proofs.Common.{◌≡◌, ℕ, ◌+◌, ◌<◌, ◌≤◌, true, false, List, [], length, get_or, take, filter, sym, refl, ap, ◌∙◌, subst, arith}
-use Rattle.std.proofs.lemmas.List.{get_or_default, take_all}
+use Rattle.std.proofs.Common.{◌≡◌, ◌+◌, get_or, sym, ap, ◌∙◌, arith}
+use Rattle.std.proofs.lemmas.List.{get_or_default}
 use Rattle.hits.specs.declared.Hit.{Hit}
-use Rattle.roadmap.specs.Calls.{passes_with, passes_hit}
-use Rattle.roadmap.proofs.Linking.{SoFar, element_none, element_some, link_not, link_more, link_starts, link_ends, so_far_as}
+use Rattle.roadmap.specs.Calls.{passes_with}
+use Rattle.roadmap.proofs.Linking.{element_none, element_some, link_not, link_more, link_starts, link_ends, so_far_as}
 use Rattle.roadmap.proofs.link.Goals as goal
 use Rattle.roadmap.proofs.link.Goals.{in-Ok+then-check, in-Ok+else-check, in_default}
 

@@ -1,6 +1,3 @@
-use Rattle.std.proofs.Common.{◌≡◌, ℕ, sym, ap, ◌∙◌, arith}
-use Rattle.index.proofs.Outcomes.{near_done}
-use Rattle.index.specs.Calls.{near_outcome}
 use Rattle.roadmap.proofs.States.{near_told, near_not}
 use Rattle.roadmap.proofs.nearest.Goals as goal
 

@@ -1,4 +1,4 @@
-use Rattle.std.proofs.Common.{sym, arith}
+use Rattle.std.proofs.Common.{arith}
 use Rattle.routing.proofs.Walking.{not_on, tight_is}
 use Rattle.routing.proofs.leads.Goals as goal
 

@@ -1,4 +1,4 @@
-use Rattle.std.proofs.Common.{◌≡◌, List, length, get_or, take, sym, subst, arith}
+use Rattle.std.proofs.Common.{List, length, get_or, take, sym, subst, arith}
 use Rattle.std.proofs.ByRecursion.{All-get_or}
 use Rattle.std.proofs.lemmas.List.{take_more, take_all}
 use Rattle.chains.specs.declared.Edge.{Edge}

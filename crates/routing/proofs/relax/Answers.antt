@@ -1,5 +1,3 @@
-use Rattle.std.proofs.Common.{◌≡◌, ℕ, subst}
-use Rattle.routing.specs.Sweeps.{Lowered}
 use Rattle.routing.proofs.Lowering.{relax_both}
 use Rattle.routing.proofs.relax.Goals as goal
 

@@ -1,7 +1,7 @@
-use Rattle.std.proofs.Common.{◌≡◌, ◌+◌, ◌<◌, length, get_or, set, sym, arith, length-set}
+use Rattle.std.proofs.Common.{◌+◌, set, arith, length-set}
 use Rattle.std.proofs.lemmas.List.{get_or_default}
-use Rattle.chains.specs.Costs.{none, cost_at}
-use Rattle.routing.proofs.Walking.{Walking, walk_starts, walk_inside, walk_room, walk_lower, walk_more, walk_ends}
+use Rattle.chains.specs.Costs.{none}
+use Rattle.routing.proofs.Walking.{walk_starts, walk_inside, walk_room, walk_lower, walk_more, walk_ends}
 use Rattle.routing.proofs.walk.Goals as goal
 
 pub loop-at-init : goal.loop-at-init

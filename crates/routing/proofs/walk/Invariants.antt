@@ -1,4 +1,4 @@
-use Rattle.std.proofs.Common.{◌<◌, ◌≤◌, length}
+use Rattle.std.proofs.Common.{◌<◌, length}
 use Rattle.chains.specs.Costs.{cost_at}
 use Rattle.routing.proofs.Walking.{Walking}
 use Rattle.routing.proofs.walk.Given as goal

@@ -1,4 +1,4 @@
-use Rattle.std.proofs.Common.{◌≡◌, length, sym, ap, ◌∙◌, arith}
+use Rattle.std.proofs.Common.{length, sym, ap, ◌∙◌, arith}
 use Rattle.gnat_rows.specs.Rows.{with_sample}
 use Rattle.gnat_order.specs.Order.{places, swapped}
 use Rattle.gnat_order.proofs.Places.{place_of, length_placed}

@@ -1,5 +1,4 @@
-use Rattle.std.proofs.Common.{◌+◌, ◌-◌, length, refl, ap, ◌∙◌, arith}
-use Rattle.std.proofs.lemmas.List.{length-map}
+use Rattle.std.proofs.Common.{◌+◌, ◌-◌, refl, ap, ◌∙◌, arith}
 use Rattle.gnat_order.specs.Order.{places, placed, swapped, behind}
 use Rattle.gnat_order.proofs.Places.{places_placed}
 use Rattle.gnat_order.proofs.Moves.{length_behind, length_swapped}

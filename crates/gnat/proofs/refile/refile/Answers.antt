@@ -1,4 +1,4 @@
-use Rattle.std.proofs.Common.{◌≡◌, suc, ◌+◌, get_or, take, subst, arith, rules}
+use Rattle.std.proofs.Common.{◌≡◌, suc, ◌+◌, take, subst, arith, rules}
 use Rattle.gnat_order.specs.Order.{places}
 use Rattle.gnat.specs.Refiling.{Refiled}
 use Rattle.gnat.proofs.Rebuilding.{refiled_none, next_place, may_file, has_filed}

@@ -1,4 +1,4 @@
-use Rattle.std.proofs.Common.{◌≡◌, ℕ, ◌<◌, ◌≢◌, length, get_or, sym, refl, ◌∙◌, subst, arith, length-set, get_or-set_other, get_or-set_same, rules, below_more}
+use Rattle.std.proofs.Common.{◌≡◌, ◌<◌, ◌≢◌, length, get_or, sym, refl, ◌∙◌, subst, arith, length-set, get_or-set_other, get_or-set_same, rules, below_more}
 use Rattle.std.proofs.lemmas.List.{get_or-replicate}
 use Rattle.gnat_filing.specs.Choosing.{blank, CandidateOf}
 use Rattle.gnat_filing.proofs.Candidates.{leaf_candidates}

@@ -1,4 +1,4 @@
-use Rattle.std.proofs.Common.{◌≡◌, ℕ, ◌-◌, ◌≤◌, take, sym, subst, arith}
+use Rattle.std.proofs.Common.{◌-◌, take, sym, subst, arith}
 use Rattle.gnat_theory.specs.Choice.{removed}
 use Rattle.gnat_filing.specs.Choosing.{Candidates}
 use Rattle.gnat_filing.proofs.Candidates.{first_within, cand_removed, takes_next}

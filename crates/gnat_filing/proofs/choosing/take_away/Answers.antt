@@ -1,4 +1,4 @@
-use Rattle.std.proofs.Common.{◌≡◌, ℕ, length, ◌∙◌, arith, rules}
+use Rattle.std.proofs.Common.{◌≡◌, length, ◌∙◌, arith, rules}
 use Rattle.gnat_filing.proofs.Choices.{turned, turned_length}
 use Rattle.gnat_filing.proofs.choosing.take_away.Goals as goal
 

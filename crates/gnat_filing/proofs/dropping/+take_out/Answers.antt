@@ -1,4 +1,4 @@
-use Rattle.std.proofs.Common.{◌≡◌, ℕ, ◌-◌, ◌<◌, length, get_or, sym, ap, ◌∙◌, subst, arith}
+use Rattle.std.proofs.Common.{◌-◌, length, get_or, sym, ap, ◌∙◌, subst, arith}
 use Rattle.gnat_rows.proofs.Changes.{nth_within, same_row}
 use Rattle.gnat_rows.proofs.Showing.{shows_leaf}
 use Rattle.gnat_filing.specs.Dropping.{Droppable}

@@ -1,4 +1,4 @@
-use Rattle.std.proofs.Common.{◌≡◌, ℕ, ◌<◌, [], length, sym, subst, arith, rules}
+use Rattle.std.proofs.Common.{◌≡◌, [], length, subst, arith, rules}
 use Rattle.gnat_rows.proofs.Only.{only_none}
 use Rattle.gnat_filing.specs.Filling.{Clears}
 use Rattle.gnat_filing.proofs.Clearing.{clears_more}

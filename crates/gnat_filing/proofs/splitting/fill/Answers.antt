@@ -1,11 +1,10 @@
-use Rattle.std.proofs.Common.{◌≡◌, ℕ, ◌<◌, ◌∷◌, ◌++◌, length, get_or, take, sym, ap, ◌∙◌, subst, arith, rules}
-use Rattle.std.proofs.lemmas.List.{get_or-map, get_or-take, length-map, length-take-le, take_all}
+use Rattle.std.proofs.Common.{◌≡◌, ◌<◌, ◌∷◌, ◌++◌, length, get_or, take, sym, ap, ◌∙◌, subst, arith, rules}
+use Rattle.std.proofs.lemmas.List.{get_or-map, get_or-take, length-map, length-take-le}
 use Rattle.std.specs.List.{slice_get}
 use Rattle.gnat_theory.specs.Tree.Tree.{leaf}
 use Rattle.gnat_theory.specs.Filing.{filed, filed_all}
 use Rattle.gnat_rows.specs.Shows.{sample_in}
 use Rattle.gnat_rows.specs.declared.Node.TheVariants as node
-use Rattle.gnat_rows.proofs.Showing.{holds_length}
 use Rattle.gnat_filing.specs.Choosing.{blank, rows_of}
 use Rattle.gnat_filing.specs.Filed.{Ready, LeavesTree}
 use Rattle.gnat_filing.proofs.Filling.{fill_none, fill_ready, fill_more}

@@ -1,4 +1,4 @@
-use Rattle.std.proofs.Common.{◌≡◌, ◌<◌, length, refl, ◌∙◌, arith, length-set, rules}
+use Rattle.std.proofs.Common.{refl, ◌∙◌, length-set, rules}
 use Rattle.std.proofs.lemmas.List.{take_more_set}
 use Rattle.gnat_filing.proofs.splitting.pushed.Goals as goal
 

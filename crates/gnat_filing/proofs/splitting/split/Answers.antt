@@ -1,10 +1,10 @@
-use Rattle.std.proofs.Common.{◌≡◌, ℕ, ◌+◌, ◌-◌, ◌<◌, ◌≤◌, [], ◌∷◌, ◌++◌, length, get_or, take, subst, arith}
+use Rattle.std.proofs.Common.{◌≡◌, ◌<◌, [], ◌∷◌, ◌++◌, length, take, subst, arith}
 use Rattle.std.proofs.ByRecursion.{All-get_or}
 use Rattle.std.proofs.lemmas.List.{get_or-take, length-take-le}
 use Rattle.gnat_rows.specs.Shows.{held}
 use Rattle.gnat_rows.proofs.Apart.{all_left, all_right}
 use Rattle.gnat_rows.proofs.Showing.{holds_within}
-use Rattle.gnat_filing.proofs.Assembling.{choice, pivots_within, bare_tree, fillable, assembled}
+use Rattle.gnat_filing.proofs.Assembling.{pivots_within, fillable, assembled}
 use Rattle.gnat_filing.proofs.splitting.split.Goals as goal
 
 pub candidates-cs-requires : goal.candidates-cs-requires

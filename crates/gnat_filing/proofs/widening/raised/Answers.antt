@@ -1,4 +1,4 @@
-use Rattle.std.proofs.Common.{◌≡◌, ℕ, ◌+◌, ◌<◌, ◌≤◌, min, max, ◌≢◌, length, get_or, set, sym, refl, ap, ◌∙◌, subst, arith, length-set, get_or-set_other, get_or-set_same, rules, below_more}
+use Rattle.std.proofs.Common.{ℕ, ◌<◌, max, ◌≢◌, length, get_or, ap, ◌∙◌, arith, length-set, get_or-set_other, get_or-set_same, below_more}
 use Rattle.gnat_filing.proofs.widening.raised.Goals as goal
 
 pub loop-i-preserved : goal.loop-i-preserved

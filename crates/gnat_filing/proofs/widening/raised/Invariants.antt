@@ -1,4 +1,4 @@
-use Rattle.std.proofs.Common.{◌≡◌, ℕ, ◌<◌, ◌≤◌, min, max, length, get_or}
+use Rattle.std.proofs.Common.{◌≡◌, ℕ, ◌<◌, ◌≤◌, max, length, get_or}
 use Rattle.gnat_filing.proofs.widening.raised.Given as goal
 
 abbrev pub invariant-loop-i : goal.invariant-loop-i

@@ -1,4 +1,4 @@
-use Rattle.std.proofs.Common.{◌≡◌, ℕ, ◌<◌, List, [], length, get_or, set, refl, ap, ◌∙◌, arith, get_or-set_other, get_or-set_same, rules}
+use Rattle.std.proofs.Common.{ℕ, ◌<◌, List, [], length, get_or, set, refl, ap, ◌∙◌, arith, get_or-set_other, get_or-set_same, rules}
 use Rattle.gnat_rows.specs.Shows.{ranges}
 use Rattle.gnat_filing.proofs.Loops.{wide_all}
 use Rattle.gnat_filing.proofs.widening.widen_column.Goals as goal

@@ -1,4 +1,4 @@
-use Rattle.std.proofs.Common.{◌≡◌, [], ◌∷◌, sym, ap, ◌∙◌}
+use Rattle.std.proofs.Common.{[], ◌∷◌, sym, ap, ◌∙◌}
 use Rattle.level_theory.specs.Words.{wrong, a_number}
 use Rattle.words.specs.Tokens.{place_of}
 use Rattle.words.specs.Cursors.{words_left}

@@ -1,8 +1,7 @@
-use Rattle.std.proofs.Common.{◌≡◌, ℕ, List, Ok, Err, sym, ap, ◌∙◌}
+use Rattle.std.proofs.Common.{sym, ap, ◌∙◌}
 use Rattle.std.proofs.lemmas.Result.{err_from_is_err_and}
 use Rattle.level_theory.specs.Words.{words_of}
 use Rattle.level_theory.specs.Reading.{carried, header_level}
-use Rattle.words.specs.Cursors.{words_left}
 use Rattle.lines.specs.Faults.{at_line_of}
 use Rattle.lines.specs.Headers.{kind_shown, header_numbers, header_read}
 use Rattle.lines.proofs.Ends.{header_carried, header_is}

@@ -1,13 +1,12 @@
-use Rattle.std.proofs.Common.{◌≡◌, ℕ, ◌+◌, ◌-◌, min, List, length, take, sym, refl, ap, ◌∙◌, subst, arith, length-take}
+use Rattle.std.proofs.Common.{◌≡◌, ℕ, ◌+◌, ◌-◌, take, sym, refl, ap, ◌∙◌, subst, arith, length-take}
 use borrow.Rule.Slice.Mut.{set_vals}
 use Rattle.std.proofs.lemmas.Result.{err_from_is_err_and}
-use Rattle.hits.specs.declared.Hit.{Hit}
-use Rattle.index.specs.Outcomes.{gives, given_room, room_outcome}
-use Rattle.index.specs.Calls.{near_hits, room_of}
+use Rattle.index.specs.Outcomes.{gives, room_outcome}
+use Rattle.index.specs.Calls.{near_hits}
 use Rattle.index.proofs.Outcomes.{numbers_left}
 use Rattle.roadmap.specs.declared.Roadmap.{Roadmap}
 use Rattle.roadmap.specs.Roads.{road_of}
-use Rattle.roadmap.specs.Calls.{grow_leaves_at, linked_hits, LinkedTo}
+use Rattle.roadmap.specs.Calls.{LinkedTo}
 use Rattle.roadmap.proofs.States.{room_used, held_count, add_sound, add_means, grow_refused, grow_done}
 use Rattle.roadmap.proofs.Roadmap.add.Goals as goal
 

@@ -1,9 +1,6 @@
-use Rattle.std.proofs.Common.{◌-◌, sym, refl, ap, ◌∙◌}
+use Rattle.std.proofs.Common.{◌-◌, sym, refl, ◌∙◌}
 use borrow.Rule.Slice.Mut.{set_vals}
-use Rattle.index.specs.Meaning.{dropped}
-use Rattle.index.specs.Calls.{drop_leaves_at}
-use Rattle.index.proofs.Outcomes.{drop_done, drop_absent, call_absent}
-use Rattle.links.specs.Records.{edges_of}
+use Rattle.index.proofs.Outcomes.{drop_done, call_absent}
 use Rattle.roadmap.specs.declared.Roadmap.{Roadmap}
 use Rattle.roadmap.specs.Roads.{road_of}
 use Rattle.roadmap.proofs.States.{drop_sound, drop_means, shrink_done, shrink_absent}

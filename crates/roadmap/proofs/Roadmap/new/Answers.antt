@@ -1,4 +1,4 @@
-use Rattle.std.proofs.Common.{◌≡◌, ◌≤◌, sym, refl, ap, ◌∙◌, subst, inl, inr, arith}
+use Rattle.std.proofs.Common.{◌≤◌, sym, refl, ap, arith}
 use borrow.Rule.Slice.Mut.{set_vals}
 use Rattle.roadmap.specs.declared.Roadmap.{Roadmap}
 use Rattle.roadmap.proofs.States.{new_sound, new_means}

@@ -1,6 +1,5 @@
-use Rattle.std.proofs.Common.{◌≡◌, ◌+◌, ◌-◌, ◌*◌, ◌<◌, ◌≤◌, ◌⊎◌, length, get_or, drop, Some, sym, ap, ◌∙◌, inl, inr, arith}
+use Rattle.std.proofs.Common.{◌≡◌, ◌+◌, ◌-◌, ◌*◌, ◌≤◌, ◌⊎◌, length, get_or, drop, Some, sym, ap, ◌∙◌, inl, inr, arith}
 use Rattle.std.specs.Str.Parse.{digits_value, digits_value_after}
-use Rattle.level_theory.specs.Words.{number_word}
 use Rattle.words.proofs.Numbers.{this_digit, next_digits, next_value, last_value, grows, zero_leads, too_large, writes}
 use Rattle.words.proofs.digits.value_of.Goals as goal
 use Rattle.words.proofs.digits.value_of.Goals.{else-digits-gt1-via-then-digits-gt1+else-digits-eq48, else-digits-gt1-via-else-digits-gt1}

@@ -1,7 +1,7 @@
-use Rattle.std.proofs.Common.{◌≡◌, sym, refl, ap, ◌∙◌, arith}
+use Rattle.std.proofs.Common.{refl, ap, ◌∙◌}
 use Rattle.std.proofs.lemmas.Result.{err_from_is_err_and}
 use Rattle.index.specs.Outcomes.{gives}
-use Rattle.index.proofs.Outcomes.{room_left, numbers_left, add_refused, add_done}
+use Rattle.index.proofs.Outcomes.{add_refused, add_done}
 use Rattle.gnat.specs.Gnats.{gnat_meaning}
 use Rattle.gnat.specs.Leaving.{tree_with_at}
 use Rattle.gnat.proofs.Calls.{room_is, tree_right}

@@ -1,4 +1,4 @@
-use Rattle.std.proofs.Common.{◌≡◌, sym, refl, ap, ◌∙◌}
+use Rattle.std.proofs.Common.{sym, refl, ap, ◌∙◌}
 use Rattle.index.proofs.Outcomes.{call_absent, call_standing, drop_absent, drop_done}
 use Rattle.gnat.specs.Gnats.{gnat_meaning}
 use Rattle.gnat.specs.Leaving.{tree_without_at}

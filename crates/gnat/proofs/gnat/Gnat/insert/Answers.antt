@@ -1,4 +1,4 @@
-use Rattle.std.proofs.Common.{◌≡◌, sym, ◌∙◌, subst, arith}
+use Rattle.std.proofs.Common.{sym, ◌∙◌, subst, arith}
 use Rattle.gnat.proofs.Inserting.{Roomy, as_it_was, made_anew, inserted}
 use Rattle.gnat.proofs.gnat.Gnat.insert.Goals as goal
 use Rattle.gnat.proofs.gnat.Gnat.insert.Goals.{then-self-capacity, else-self-capacity}

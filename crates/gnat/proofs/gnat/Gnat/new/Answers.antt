@@ -1,4 +1,4 @@
-use Rattle.std.proofs.Common.{refl, arith}
+use Rattle.std.proofs.Common.{refl}
 use Rattle.gnat.proofs.States.{new_means, new_sound}
 use Rattle.gnat.proofs.gnat.Gnat.new.Goals as goal
 

@@ -1,4 +1,4 @@
-use Rattle.std.proofs.Common.{refl, rules}
+use Rattle.std.proofs.Common.{refl}
 use Rattle.gnat.proofs.Rebuilding.{may_refile, rebuild_means, rebuild_tree, rebuild_sound}
 use Rattle.gnat.proofs.gnat.Gnat.rebuild.Goals as goal
 

@@ -1,4 +1,4 @@
-use Rattle.std.proofs.Common.{◌≡◌, length, get_or, sym, refl, ap, ◌∙◌, subst, arith, rules}
+use Rattle.std.proofs.Common.{◌≡◌, length, get_or, sym, refl, ◌∙◌, subst, rules}
 use Rattle.gnat_filing.specs.Dropping.{Droppable, Drops, DropsFrom}
 use Rattle.gnat_theory.specs.Dropping.{shrunk}
 use Rattle.gnat_order.specs.Order.{places}

@@ -1,4 +1,4 @@
-use Rattle.std.proofs.Common.{◌≡◌, cond, [], sym, ap, ◌∙◌}
+use Rattle.std.proofs.Common.{cond, [], sym, ap, ◌∙◌}
 use Rattle.level_theory.specs.Words.{words_of}
 use Rattle.words.specs.Cursors.{end_of}
 use Rattle.words.proofs.Splits.{split_end}

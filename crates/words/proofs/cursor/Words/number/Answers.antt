@@ -1,5 +1,4 @@
-use Rattle.std.proofs.Common.{◌≡◌, true, sym, ap, ◌∙◌, subst}
-use Rattle.level_theory.specs.Words.{all_bytes, digit}
+use Rattle.std.proofs.Common.{sym, ap, ◌∙◌, subst}
 use Rattle.words.specs.Tokens.{letters, digits, amiss}
 use Rattle.words.specs.Cursors.{words_left}
 use Rattle.words.proofs.Numbers.{number_most}
