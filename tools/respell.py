@@ -73,6 +73,10 @@ def declared():
                 for name in bound.split():
                     if wanted(name):
                         names.add(name)
+    for path in glob.glob("crates/*/src/**/*.rt", recursive=True):
+        for line in open(path, encoding="utf-8"):
+            if line.startswith("ghost use "):
+                names |= {name for name in re.findall(r"[{,][^{},]+ as (" + WORD + r")", line) if wanted(name)}
     return names, fields
 
 

@@ -1,7 +1,7 @@
 -- The lines of a level file, one after another. Assumes nothing.
 use Rattle.std.proofs.Common.{◌≡◌, ℕ, ◌+◌, ◌<◌, ◌≤◌, true, false, cond, eqb, List, [], ◌∷◌, length, Ok, Err, Result, sym, refl, ap, ◌∙◌}
 use Rattle.std.proofs.lemmas.Bool.{le-leb, lt-leb}
-use Rattle.index.specs.Outcomes.{Outcome, gives, refuses}
+use Rattle.index.specs.Outcomes.{gives, refuses}
 use Rattle.level_theory.specs.Words.{onto, split, words_of, pieces_of}
 use Rattle.level_theory.specs.Levels.{Kind}
 use Rattle.level_theory.specs.Levels.{Level as Meaning}

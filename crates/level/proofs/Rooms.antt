@@ -1,5 +1,5 @@
 -- The lists of a level have room for what may still come. Assumes nothing.
-use Rattle.std.proofs.Common.{◌≡◌, ℕ, zero, suc, ◌+◌, ◌-◌, ◌<◌, ◌≤◌, List, [], ◌∷◌, ◌++◌, map, length, take, set, sym, refl, ap, ◌∙◌, subst, arith}
+use Rattle.std.proofs.Common.{◌≡◌, ℕ, zero, suc, ◌-◌, ◌<◌, ◌≤◌, List, [], ◌∷◌, ◌++◌, map, length, take, sym, refl, ap, ◌∙◌, subst, arith}
 use Rattle.std.proofs.lemmas.List.{length-set, take_more_set, map_push}
 use Rattle.level_theory.specs.Levels.{Kind}
 use Rattle.level_theory.specs.Reading.{walls_left, calls_left, level_with}
@@ -7,7 +7,7 @@ use Rattle.lines.specs.declared.calls.CallLine.{CallLine}
 use Rattle.lines.specs.Calls.{call_shown}
 use Rattle.level.specs.declared.level.Level.{Level}
 use Rattle.level.specs.declared.reader.Stage.{Stage}
-use Rattle.level.specs.declared.reader.Stage.TheVariants.{WallCount, Walls, CallCount, Calls, End}
+use Rattle.level.specs.declared.reader.Stage.TheVariants.{WallCount, Walls, CallCount, Calls}
 use Rattle.level.specs.declared.reader.Reader.{Reader}
 use Rattle.level.specs.Levels.{with_wall, with_call, level_shown, Counted}
 use Rattle.level.specs.Stages.{stage_shown, walls_next, calls_next, walls_yet, calls_yet, SomeLeft, Room}

@@ -1,10 +1,10 @@
 -- One line of a level file, by the stage at which it is read. Assumes nothing.
-use Rattle.std.proofs.Common.{◌≡◌, ℕ, zero, suc, ◌+◌, ◌-◌, ◌<◌, ◌≤◌, Bool, true, false, cond, List, [], ◌∷◌, ◌++◌, get_or, Some, None, codes, Option, sym, refl, ap, ◌∙◌, subst, arith}
+use Rattle.std.proofs.Common.{◌≡◌, ℕ, suc, ◌+◌, ◌-◌, ◌≤◌, Bool, true, false, cond, List, [], ◌∷◌, ◌++◌, get_or, None, codes, sym, refl, ap, ◌∙◌, arith}
 use Rattle.index.specs.Outcomes.{Outcome, gives, refuses}
 use Rattle.level_theory.specs.Words.{letter, digit, all_bytes, number_word, Want, a_number, Taken, right, wrong, with_number, take_words}
 use Rattle.level_theory.specs.Levels.{Kind, arms, cards, form_of, LineCall}
 use Rattle.level_theory.specs.Levels.{Level as Meaning}
-use Rattle.level_theory.specs.Reading.{Stage, at_wall_count, at_walls, at_call_count, at_calls, at_end, walls_left, calls_left, count_wants, no_call, letter_of, formed, level_with, number_wants, Progress, progress, then_call, read_call, read_call_at, read_line}
+use Rattle.level_theory.specs.Reading.{Stage, at_wall_count, at_walls, at_call_count, at_calls, walls_left, calls_left, count_wants, no_call, formed, level_with, number_wants, progress, then_call, read_call, read_call_at, read_line}
 use Rattle.words.specs.Tokens.{Word, letters, digits, amiss, word_of}
 use Rattle.words.specs.Cursors.{first_word}
 use Rattle.words.proofs.Numbers.{not_digits, no_bytes, letters_no_digits}

@@ -1,5 +1,5 @@
 -- What a level that is read means.
-use Rattle.std.specs.Prelude.{◌≡◌, ℕ, ◌+◌, ◌≤◌, List, [], ◌∷◌, map, length, take, Ok, Err, Result, slice_set}
+use Rattle.std.specs.Prelude.{◌≡◌, ℕ, ◌+◌, ◌≤◌, List, [], map, length, take, Ok, Err, Result, slice_set}
 use Rattle.index.specs.Outcomes.{Outcome, gives, refuses}
 use Rattle.level_theory.specs.Levels.{Kind, arms, cards, header_outcome}
 use Rattle.level_theory.specs.Levels.{Level as Meaning}

@@ -1,8 +1,7 @@
 -- Levels of one game are answered alike.
-use Rattle.std.proofs.Common.{◌≡◌, ℕ, List, sym, refl, ◌∙◌, subst}
-use Rattle.index.specs.Outcomes.{Outcome, gives}
+use Rattle.std.proofs.Common.{◌≡◌, ℕ, List, sym, subst}
+use Rattle.index.specs.Outcomes.{Outcome}
 use Rattle.level_theory.specs.Levels.{Kind, arms, cards, LineCall, Level}
-use Rattle.level_theory.specs.Reading.{reading}
 use Rattle.play_theory.proofs.Unique.{answered_one}
 use Rattle.play.specs.Levels.{KindAnswered, LevelAnswered, PlayedAs, Played, SameGame, PlaysAlike}
 

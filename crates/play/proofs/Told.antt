@@ -1,5 +1,5 @@
 -- What a play tells, from what reading and playing its calls tell.
-use Rattle.std.proofs.Common.{◌≡◌, ℕ, zero, suc, ◌+◌, ◌<◌, ◌≤◌, List, [], ◌∷◌, map, length, get_or, take, Ok, Err, codes, decimal, Result, sym, refl, ap, ◌∙◌, subst, arith, lit<, length-append, length-take}
+use Rattle.std.proofs.Common.{◌≡◌, ℕ, zero, suc, ◌+◌, ◌≤◌, List, [], ◌∷◌, map, length, get_or, take, codes, decimal, sym, refl, ap, subst, arith, lit<, length-append, length-take}
 use Rattle.std.specs.List.{AllByRecursion}
 use Rattle.std.proofs.lemmas.Fmt.{length-decimal-le}
 use Rattle.arm_checkers.specs.Passes.{step_passes}
@@ -20,10 +20,9 @@ use Rattle.lines.specs.Faults.{fault_number, fault_figures}
 use Rattle.lines.specs.Calls.{call_shown}
 use Rattle.level.specs.declared.level.Level.{Level as Read}
 use Rattle.level.specs.Levels.{Counted, level_shown}
-use Rattle.player.specs.Calls.{told_calls}
 use Rattle.play.specs.declared.fault.PlayFault.{PlayFault}
 use Rattle.play.specs.declared.fault.PlayFault.TheVariants.{Reading, Output}
-use Rattle.play.specs.Faults.{number_told, list_told, told_play, fault_line}
+use Rattle.play.specs.Faults.{number_told, list_told, fault_line}
 use Rattle.play.specs.Levels.{level_call, KindAnswered, LevelAnswered, PlayedAs, Played, PlaysAlike}
 use Rattle.play.proofs.Alike.{alike}
 

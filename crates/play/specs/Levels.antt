@@ -1,5 +1,5 @@
 -- What playing a level file answers.
-use Rattle.std.specs.Prelude.{◌≡◌, ℕ, List, [], ◌∷◌, map}
+use Rattle.std.specs.Prelude.{◌≡◌, ℕ, List, map}
 use Rattle.index.specs.Outcomes.{Outcome, gives, refuses}
 use Rattle.arm.specs.Poses.{pose_distance}
 use Rattle.card.specs.Cards.{card_distance}

@@ -1,5 +1,5 @@
 -- How much of an output a play wrote.
-use Rattle.std.specs.Prelude.{ℕ, zero, suc, ◌+◌, min, cond, List, [], ◌∷◌, length, Ok, Err, Result, ◌==◌}
+use Rattle.std.specs.Prelude.{ℕ, zero, suc, min, cond, List, [], ◌∷◌, length, Ok, Err, Result, ◌==◌}
 use Rattle.play.specs.declared.fault.PlayFault.{PlayFault}
 use Rattle.play.specs.declared.fault.PlayFault.TheVariants.{Reading, Output}
 

@@ -1,6 +1,6 @@
 -- How many lines a play that ends early has written.
 use Rattle.std.proofs.Common.{◌≡◌, ℕ, ◌+◌, ◌≤◌, Bool, true, false, List, [], ◌∷◌, length, MatchBool, sym, subst, arith, lit≤}
-use Rattle.index.specs.Outcomes.{Outcome, gives, refuses}
+use Rattle.index.specs.Outcomes.{Outcome, refuses}
 use Rattle.history_theory.specs.History.{History, then_asks}
 use Rattle.history.specs.declared.Call.{Call}
 use Rattle.history.specs.Turns.{Lent, reply, asked}

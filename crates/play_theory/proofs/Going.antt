@@ -1,5 +1,5 @@
 -- A run of calls on a roadmap: what is left to answer decides what all are answered.
-use Rattle.std.proofs.Common.{◌≡◌, ℕ, ◌+◌, Bool, true, false, cond, List, [], ◌∷◌, length, Some, None, MatchBool, Option, sym, refl, ap, ◌∙◌, subst}
+use Rattle.std.proofs.Common.{◌≡◌, ℕ, ◌+◌, Bool, true, false, List, [], ◌∷◌, length, refl, subst}
 use Rattle.metric.specs.Laws.{MetricLaws}
 use Rattle.checker.specs.Laws.{Symmetric}
 use Rattle.index.specs.Outcomes.{Outcome, gives, refuses}
@@ -12,8 +12,8 @@ use Rattle.history.specs.declared.Answer.{Answer}
 use Rattle.history.specs.Turns.{Lent, reply, asked, Does}
 use Rattle.history.specs.Law.{Turn}
 use Rattle.history.proofs.Playing.{fair, turn}
-use Rattle.printing.specs.Outputs.{written, fits_at, put_outcome, put_leaves}
-use Rattle.answers.specs.AnswerLines.{answer_line, dropped_by}
+use Rattle.printing.specs.Outputs.{written, fits_at}
+use Rattle.answers.specs.AnswerLines.{answer_line}
 use Rattle.play_theory.specs.Answering.{Pairs, itself, set_call, Answered}
 use Rattle.play_theory.proofs.Steps.{asked_set, turn_set, line_set}
 

@@ -1,6 +1,6 @@
 -- One more call on a roadmap that a history has reached.
-use Rattle.std.proofs.Common.{◌≡◌, ℕ, ◌+◌, Bool, List, [], ◌∷◌, codes, sym, refl, ap, ◌∙◌, subst}
-use Rattle.history_theory.specs.History.{History, Asked, Reply, grew, shrank, shows, tallies, nears, withins, names, leads, refused}
+use Rattle.std.proofs.Common.{◌≡◌, ℕ, Bool, codes, refl, ap}
+use Rattle.history_theory.specs.History.{History, Reply, grew, shrank, shows, tallies, nears, withins, names, leads, refused}
 use Rattle.printing.specs.Outputs.{word_line}
 use Rattle.answers.specs.AnswerLines.{dropped_by, answer_line}
 use Rattle.history.specs.declared.Call.{Call}
@@ -8,7 +8,7 @@ use Rattle.history.specs.declared.Call.TheVariants as call
 use Rattle.history.specs.declared.Answer.{Answer}
 use Rattle.history.specs.Turns.{Lent, asked}
 use Rattle.history.specs.Law.{Turn}
-use Rattle.play_theory.specs.Answering.{Pairs, itself, set_call}
+use Rattle.play_theory.specs.Answering.{itself, set_call}
 
 module _ {E C : Type 0} (dist : E → E → ℕ) (passes : C → E → E → Bool) where
   pub asked_set : (c : Call E C) (l : Lent) → asked passes c l ≡ asked itself (set_call passes c) l

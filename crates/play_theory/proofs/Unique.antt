@@ -1,12 +1,11 @@
 -- What calls are answered is unique.
-use Rattle.std.proofs.Common.{◌≡◌, ℕ, ◌+◌, Bool, true, false, List, [], ◌∷◌, length, MatchBool, sym, refl, ap, ◌∙◌, subst}
-use Rattle.index.specs.Outcomes.{Outcome, gives, refuses}
+use Rattle.std.proofs.Common.{◌≡◌, ℕ, ◌+◌, Bool, true, false, List, [], ◌∷◌, length, MatchBool, sym, refl, ◌∙◌, subst}
+use Rattle.index.specs.Outcomes.{Outcome, refuses}
 use Rattle.history_theory.specs.History.{History, Reply, then_asks}
 use Rattle.history.specs.declared.Call.{Call}
 use Rattle.history.specs.declared.Call.TheVariants as call
-use Rattle.history.specs.declared.Answer.{Answer}
 use Rattle.history.specs.Turns.{Lent, reply, asked}
-use Rattle.history.specs.Law.{Turn, Alike, adds, drops, elements, tallied, neared, ranged, islands, routes}
+use Rattle.history.specs.Law.{Alike, adds, drops, elements, tallied, neared, ranged, islands, routes}
 use Rattle.history.proofs.One.{same_turn}
 use Rattle.printing.specs.Outputs.{written, fits_at}
 use Rattle.answers.specs.AnswerLines.{answer_line}

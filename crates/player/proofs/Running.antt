@@ -1,5 +1,5 @@
 -- The loop over the calls of a level.
-use Rattle.std.proofs.Common.{◌≡◌, ℕ, ◌+◌, ◌<◌, ◌≤◌, Bool, true, false, cond, List, [], ◌∷◌, map, length, get_or, drop, Some, None, Option, sym, refl, ap, ◌∙◌, subst, arith}
+use Rattle.std.proofs.Common.{◌≡◌, ℕ, ◌+◌, ◌<◌, ◌≤◌, Bool, true, false, cond, List, [], ◌∷◌, map, length, get_or, drop, Some, None, sym, refl, ap, ◌∙◌, subst, arith}
 use Rattle.std.proofs.lemmas.List.{drop_more, drop_all}
 use Rattle.metric.specs.Laws.{MetricLaws}
 use Rattle.checker.specs.Laws.{Symmetric}
@@ -7,7 +7,7 @@ use Rattle.index.specs.Outcomes.{Outcome, gives, refuses}
 use Rattle.roadmap.specs.Roads.{Road}
 use Rattle.history.specs.declared.Call.{Call}
 use Rattle.history.specs.Turns.{Lent, reply}
-use Rattle.printing.specs.Outputs.{written, fits_at}
+use Rattle.printing.specs.Outputs.{written}
 use Rattle.answers.specs.AnswerLines.{answer_line}
 use Rattle.play_theory.specs.Answering.{Pairs, set_call}
 use Rattle.play_theory.proofs.Going.{Going, going_done, going_more, going_full}

@@ -1,6 +1,5 @@
 -- The calls of a level.
 use Rattle.std.specs.Prelude.{◌≡◌, ℕ, Bool, List, [], ◌∷◌, length, replicate, Ok, Err, Option, Result}
-use Rattle.hits.specs.declared.Hit.{Hit}
 use Rattle.index.specs.Outcomes.{Outcome, gives, refuses}
 use Rattle.roadmap.specs.Roads.{Road}
 use Rattle.history.specs.declared.Call.{Call}

@@ -1,5 +1,5 @@
 -- Numbers written one behind the other.
-use Rattle.std.proofs.Common.{◌≡◌, ℕ, ◌+◌, ◌<◌, ◌≤◌, List, [], ◌∷◌, ◌++◌, length, get_or, take, set, decimal, sym, ap, ◌∙◌, append_assoc, arith, length-append}
+use Rattle.std.proofs.Common.{◌≡◌, ℕ, ◌+◌, ◌<◌, ◌≤◌, List, [], ◌∷◌, ◌++◌, length, get_or, take, set, decimal, ap, ◌∙◌, append_assoc, arith, length-append}
 use Rattle.printing.specs.Outputs.{written, word_line}
 use Rattle.printing.proofs.Bytes.{set_written, written_written}
 use Rattle.printing.proofs.Words.{tail_of, tail_more, tail_len, line_tail, line_len}

@@ -1,7 +1,7 @@
 -- A line, word by word.
 use Rattle.std.proofs.Common.{◌≡◌, ℕ, ◌+◌, ◌<◌, ◌≤◌, List, [], ◌∷◌, ◌++◌, map, length, get_or, take, drop, decimal, sym, refl, ap, ◌∙◌, append_assoc, append-nil, arith, length-append, rules}
 use Rattle.std.proofs.lemmas.List.{take_more, take-append-drop}
-use Rattle.level_theory.specs.Texts.{spaced, line_of}
+use Rattle.level_theory.specs.Texts.{spaced}
 use Rattle.printing.specs.Outputs.{word_line}
 
 -- each number with a space before it

@@ -1,4 +1,4 @@
-use Rattle.std.proofs.Common.{arith, rules}
+use Rattle.std.proofs.Common.{rules}
 use Rattle.std.proofs.lemmas.Fmt.{length-decimal-le_succ}
 use Rattle.printing.proofs.Digits.{len_one, len_more}
 use Rattle.printing.proofs.+decimal_len.Goals as goal

@@ -1,5 +1,4 @@
 use Rattle.std.proofs.Common.{arith, rules}
-use Rattle.std.proofs.lemmas.Fmt.{length-decimal-le_succ}
 use Rattle.printing.proofs.Digits.{len_one, len_more, first_step, last_step}
 use Rattle.printing.proofs.+put_digits.Goals as goal
 

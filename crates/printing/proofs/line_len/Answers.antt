@@ -1,4 +1,4 @@
-use Rattle.std.proofs.Common.{◌≡◌, ◌≤◌, length, get_or, decimal, ap, arith, lit<}
+use Rattle.std.proofs.Common.{◌≤◌, length, get_or, decimal, ap, arith, lit<}
 use Rattle.std.proofs.lemmas.Fmt.{length-decimal-le}
 use Rattle.std.proofs.lemmas.List.{take_all}
 use Rattle.printing.proofs.Words.{tail_of, tail_len, line_len}

@@ -1,7 +1,7 @@
-use Rattle.std.proofs.Common.{◌≡◌, ◌+◌, ◌<◌, ◌≤◌, length, take, Some, sym, ap, ◌∙◌, arith, length-set, le-leb}
+use Rattle.std.proofs.Common.{◌≡◌, ◌+◌, ◌≤◌, length, take, Some, sym, ap, ◌∙◌, arith, length-set, le-leb}
 use Rattle.std.proofs.lemmas.List.{take_all}
 use Rattle.printing.specs.Outputs.{written, word_line}
-use Rattle.printing.proofs.Bytes.{written_none, length_written}
+use Rattle.printing.proofs.Bytes.{written_none}
 use Rattle.printing.proofs.Words.{tail_of, tail_len, tail_le, line_len}
 use Rattle.printing.proofs.Numbers.{number_more, line_done}
 use Rattle.printing.proofs.put_line.Goals as goal

@@ -1,4 +1,4 @@
-use Rattle.std.proofs.Common.{refl, ◌∙◌, arith, lit≤}
+use Rattle.std.proofs.Common.{refl, ◌∙◌, lit≤}
 use Rattle.roadmap.specs.Roads.{road_of}
 use Rattle.history_theory.specs.History.{start}
 use Rattle.history.specs.Turns.{lent}

@@ -1,5 +1,4 @@
-use Rattle.std.proofs.Common.{◌≡◌, ℕ, List, map, length, drop}
-use Rattle.index.specs.Outcomes.{Outcome}
+use Rattle.std.proofs.Common.{◌≡◌, map, length, drop}
 use Rattle.roadmap.specs.Roads.{road_of, RoadSound}
 use Rattle.history_theory.specs.History.{start}
 use Rattle.history.specs.Turns.{lent}

@@ -1,4 +1,4 @@
-use Rattle.std.proofs.Common.{◌+◌, ◌++◌, refl, ap, ◌∙◌, arith}
+use Rattle.std.proofs.Common.{◌++◌, ap, ◌∙◌, arith}
 use Rattle.answers.specs.Listing.{listed}
 use Rattle.answers.proofs.Lists.{more_taken, take_least}
 use Rattle.answers.proofs.numbers.Numbers.push_all.Goals as goal

@@ -1,4 +1,4 @@
-use Rattle.std.proofs.Common.{◌+◌, [], ◌∷◌, ◌++◌, get_or, refl, ap, ◌∙◌, arith}
+use Rattle.std.proofs.Common.{[], ◌∷◌, ◌++◌, get_or, ap, ◌∙◌, arith}
 use Rattle.hits.specs.declared.Hit.{Hit}
 use Rattle.answers.specs.Listing.{listed, hit_numbers}
 use Rattle.answers.proofs.Lists.{more_hits, take_least}
