@@ -18,8 +18,8 @@ STD = re.compile(r"^\s*(?:ghost )?use (?:Rattle\.std|denote|borrow|native|mathli
 GOALS = re.compile(r"^\s*use Rattle\.\w+\.proofs\.[^{]*\.(?:Goals|Given)\.\{([^}]*)\}")
 
 
-# Where the plain spelling is taken by a type of src/ or a word of the library.
-OTHERWISE = {"Call-line": "LineCall", "Holds-at": "HoldsNumberAt"}
+# Where the plain spelling is taken by a type of src/ or a word of the library, or the name is no fact in spite of its capital.
+OTHERWISE = {"Call-line": "LineCall", "Holds-at": "HoldsNumberAt", "Outside-of": "outside_of"}
 
 
 def antt_files():

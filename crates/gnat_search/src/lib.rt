@@ -2,7 +2,7 @@
 #![tactic(auto)]
 
 ghost use Rattle.std.specs.Prelude.{◌≡◌, ◌+◌, ◌<◌, ◌≤◌, List, ◌++◌, length, take};
-ghost use Rattle.gnat_theory.specs.Searching.{State, measure, outside as OutsideOf};
+ghost use Rattle.gnat_theory.specs.Searching.{State, measure, outside as outside_of};
 ghost use Rattle.gnat_theory.specs.Searching.Sight.{seen};
 ghost use Rattle.gnat_rows.specs.Rows.{HasRow};
 ghost use Rattle.gnat_rows.specs.Shows.{sample_in, pivot_in};
@@ -134,7 +134,7 @@ fn count_pivot<E: Metric>(
 
 // Whether a range has nothing within the radius: the pivot whose range it is lies at this distance.
 fn outside(distance: u32, radius: u32, low: u32, high: u32) -> bool
-    ensures { result ≡ OutsideOf distance radius (record { low = low; high = high }) }
+    ensures { result ≡ outside_of distance radius (record { low = low; high = high }) }
 {
     let distance = u64::from(distance);
     let radius = u64::from(radius);
