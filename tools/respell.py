@@ -18,8 +18,18 @@ STD = re.compile(r"^\s*(?:ghost )?use (?:Rattle\.std|denote|borrow|native|mathli
 GOALS = re.compile(r"^\s*use Rattle\.\w+\.proofs\.[^{]*\.(?:Goals|Given)\.\{([^}]*)\}")
 
 
-# Where the plain spelling is taken by a type of src/ or a word of the library, or the name is no fact in spite of its capital.
-OTHERWISE = {"Call-line": "LineCall", "Holds-at": "HoldsNumberAt", "Outside-of": "outside_of"}
+# Where the plain spelling is taken by a type of src/ or a word of the library, where the name is no fact in spite of its
+# capital, and where the library has another word today.
+OTHERWISE = {
+    "Call-line": "LineCall",
+    "Holds-at": "HoldsNumberAt",
+    "Outside-of": "outside_of",
+    "among-getD": "among_get_or",
+    "getD-behind": "get_or_behind",
+    "getD-distances": "get_or_distances",
+    "getD-ranges": "get_or_ranges",
+    "getD-swapped": "get_or_swapped",
+}
 
 
 def antt_files():

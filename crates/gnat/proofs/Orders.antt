@@ -8,7 +8,7 @@ use Rattle.gnat_rows.specs.declared.Row.{Row}
 use Rattle.gnat_rows.specs.Lying.{Distinct}
 use Rattle.gnat_rows.proofs.Apart.{distinct_left, distinct_shuffle}
 use Rattle.gnat_order.specs.Order.{places, swapped, behind}
-use Rattle.gnat_order.proofs.Moves.{behind_firsts, swapped_firsts, length_behind, length_swapped, take_behind, getD_behind, take_before, getD_swapped}
+use Rattle.gnat_order.proofs.Moves.{behind_firsts, swapped_firsts, length_behind, length_swapped, take_behind, get_or_behind, take_before, get_or_swapped}
 use Rattle.gnat.specs.declared.gnat.Gnat.{Gnat}
 use Rattle.gnat.specs.Gnats.{capacity_of, listed, GnatSound}
 use Rattle.gnat.proofs.Dropping.{cancelled}
@@ -71,7 +71,7 @@ module _ {E : Type 0} (dist : E → E → ℕ) (g : Gnat E) (o : GnatSound dist 
   freed_in_use : Shuffle ℕ o.lies (take ((g.standing - 1) + g.marked) freed ++ (dropped_row ∷ []))
   freed_in_use =
       let count : g.standing + g.marked ≡ suc ((g.standing - 1) + g.marked) = omega arith in
-      let last : get_or freed ((g.standing - 1) + g.marked) 0 ≡ dropped_row = getD_swapped (g.standing - 1) g.marked moved last_in_use ∙ getD_behind i g.standing (places g.rows.now) inside fit in
+      let last : get_or freed ((g.standing - 1) + g.marked) 0 ≡ dropped_row = get_or_swapped (g.standing - 1) g.marked moved last_in_use ∙ get_or_behind i g.standing (places g.rows.now) inside fit in
       let cut : take (suc ((g.standing - 1) + g.marked)) freed ≡ take ((g.standing - 1) + g.marked) freed ++ (dropped_row ∷ []) =
       take-suc freed ((g.standing - 1) + g.marked) 0 (omega (arith, freed_length, moved_length, last_in_use)) ∙ ap (λ x. take ((g.standing - 1) + g.marked) freed ++ (x ∷ [])) last in
       subst (Shuffle ℕ o.lies) cut

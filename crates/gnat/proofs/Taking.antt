@@ -48,10 +48,10 @@ module _ {E : Type 0} where
   among_samples rows (k ∷ is) zero r l e = subst (λ o. Among (sample_in r) (sample_on o (samples_at rows is))) (sym e) (inl refl)
   among_samples rows (k ∷ is) (suc i) r l e = among_on (sample_in r) (slice_get rows k) (samples_at rows is) (among_samples rows is i r (omega arith) e)
 
-among_getD : (is : List ℕ) (i : ℕ) → i < length is → Among (get_or is i 0) is
-among_getD [] i l = absurd (omega arith)
-among_getD (k ∷ is) zero l = inl refl
-among_getD (k ∷ is) (suc i) l = inr (among_getD is i (omega arith))
+among_get_or : (is : List ℕ) (i : ℕ) → i < length is → Among (get_or is i 0) is
+among_get_or [] i l = absurd (omega arith)
+among_get_or (k ∷ is) zero l = inl refl
+among_get_or (k ∷ is) (suc i) l = inr (among_get_or is i (omega arith))
 
 module _ {E : Type 0} (dist : E → E → ℕ) (g : Gnat E) (o : GnatSound dist g) (at : ℕ) (inside : at < g.standing) where
   abbrev old : List (Row E)
@@ -71,7 +71,7 @@ module _ {E : Type 0} (dist : E → E → ℕ) (g : Gnat E) (o : GnatSound dist 
   in_tree : Among row o.lies
   in_tree =
       let n = g.standing + g.marked in
-      let front : Among (get_or (take n (places old)) at 0) (take n (places old)) = among_getD (take n (places old)) at (omega (arith, length-take-le n (places old) (omega (arith, long, o.in_use)))) in
+      let front : Among (get_or (take n (places old)) at 0) (take n (places old)) = among_get_or (take n (places old)) at (omega (arith, length-take-le n (places old) (omega (arith, long, o.in_use)))) in
       among_shuffle row (take n (places old)) o.lies (shuffle_back _ _ o.lists) (subst (λ i. Among i (take n (places old))) (get_or-take n (places old) at 0 (omega arith)) front)
 
   module _ (r : Row E) (is_row : slice_get old row ≡ Some r) where

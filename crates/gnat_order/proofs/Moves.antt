@@ -135,8 +135,8 @@ pub take_before : (s m : ℕ) (ps : List ℕ) → take s (swapped s (s + m) ps) 
 take_before s m ps = take-set-le s (set ps s (get_or ps (s + m) 0)) (s + m) (get_or ps s 0) (omega arith) ∙ take-set-le s ps s (get_or ps (s + m) 0) (omega arith)
 
 -- what the later place then has
-pub getD_swapped : (s m : ℕ) (ps : List ℕ) → s + m < length ps → get_or (swapped s (s + m) ps) (s + m) 0 ≡ get_or ps s 0
-getD_swapped s m ps l = get_or-set_same (set ps s (get_or ps (s + m) 0)) (s + m) (get_or ps s 0) 0 (simp length-set (omega arith))
+pub get_or_swapped : (s m : ℕ) (ps : List ℕ) → s + m < length ps → get_or (swapped s (s + m) ps) (s + m) 0 ≡ get_or ps s 0
+get_or_swapped s m ps l = get_or-set_same (set ps s (get_or ps (s + m) 0)) (s + m) (get_or ps s 0) 0 (simp length-set (omega arith))
 
 -- the first of the count after one is moved behind them
 pub take_behind : (at count : ℕ) (ps : List ℕ) → at < count → count ≤ length ps → take (count - 1) (behind at count ps) ≡ take at (take count ps) ++ drop (suc at) (take count ps)
@@ -146,8 +146,8 @@ take_behind at count ps l b =
     ap (take (count - 1)) (taken_behind at count ps l b) ∙ (take_at left (get_or ps at 0 ∷ drop count ps) (count - 1) size ∙ ap (λ z. z ++ drop (suc at) (take count ps)) (sym (take-take at count ps (omega arith))))
 
 -- and the one behind
-pub getD_behind : (at count : ℕ) (ps : List ℕ) → at < count → count ≤ length ps → get_or (behind at count ps) (count - 1) 0 ≡ get_or ps at 0
-getD_behind at count ps l b =
+pub get_or_behind : (at count : ℕ) (ps : List ℕ) → at < count → count ≤ length ps → get_or (behind at count ps) (count - 1) 0 ≡ get_or ps at 0
+get_or_behind at count ps l b =
     let left = take at ps ++ drop (suc at) (take count ps) in
     let size : length left ≡ count - 1 = simp (length-append, length-take, length-drop) (omega arith) in
     ap (λ z. get_or z (count - 1) 0) (taken_behind at count ps l b) ∙ get_or_at left (get_or ps at 0) (drop count ps) 0 (count - 1) size

@@ -26,12 +26,12 @@ longer_ranges (suc n) (x ∷ lows) [] i k l h = absurd (omega arith)
 longer_ranges (suc n) (x ∷ lows) (y ∷ highs) zero k l h = omega arith
 longer_ranges (suc n) (x ∷ lows) (y ∷ highs) (suc i) k l h = omega (arith, longer_ranges n lows highs i (omega arith) (omega arith) (omega arith))
 
-getD_ranges : (n : ℕ) (lows highs : List ℕ) (i : ℕ) (r : Range) → i < n → i < length lows → i < length highs → get_or (ranges n lows highs) i r ≡ record { low = get_or lows i 0; high = get_or highs i 0 }
-getD_ranges zero lows highs i r k l h = absurd (omega arith)
-getD_ranges (suc n) [] highs i r k l h = absurd (omega arith)
-getD_ranges (suc n) (x ∷ lows) [] i r k l h = absurd (omega arith)
-getD_ranges (suc n) (x ∷ lows) (y ∷ highs) zero r k l h = refl
-getD_ranges (suc n) (x ∷ lows) (y ∷ highs) (suc i) r k l h = getD_ranges n lows highs i r (omega arith) (omega arith) (omega arith)
+get_or_ranges : (n : ℕ) (lows highs : List ℕ) (i : ℕ) (r : Range) → i < n → i < length lows → i < length highs → get_or (ranges n lows highs) i r ≡ record { low = get_or lows i 0; high = get_or highs i 0 }
+get_or_ranges zero lows highs i r k l h = absurd (omega arith)
+get_or_ranges (suc n) [] highs i r k l h = absurd (omega arith)
+get_or_ranges (suc n) (x ∷ lows) [] i r k l h = absurd (omega arith)
+get_or_ranges (suc n) (x ∷ lows) (y ∷ highs) zero r k l h = refl
+get_or_ranges (suc n) (x ∷ lows) (y ∷ highs) (suc i) r k l h = get_or_ranges n lows highs i r (omega arith) (omega arith) (omega arith)
 
 -- the range of the pivot i to the child j
 abbrev pub range_to : Branch → ℕ → ℕ → Range
@@ -54,7 +54,7 @@ tested_all b i d R before after k t ss long f j l =
     x.is
     ∙ (ap (λ t. t || outside d R (range_to b j i)) (f j l)
     ∙ sym (struck_push ss (column b j) s (range_to b j i) there
-    ∙ ap (λ z. struck ss (column b j) || strikes s z) (ap (λ n. get_or (column b j) n (range_to b j i)) long ∙ getD_ranges b.count lows highs i (range_to b j i) k x.lows x.highs)))
+    ∙ ap (λ z. struck ss (column b j) || strikes s z) (ap (λ n. get_or (column b j) n (range_to b j i)) long ∙ get_or_ranges b.count lows highs i (range_to b j i) k x.lows x.highs)))
 
 -- without a reach a pivot strikes nothing
 pub strikes_none : (o : Option ℕ) (d : ℕ) → ((x : ℕ) → o ≡ Some x → ⊥) → (r : Range) → strikes (seen d o) r ≡ false

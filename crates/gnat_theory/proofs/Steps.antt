@@ -61,10 +61,10 @@ module _ {E : Type 0} (dist : E → E → ℕ) where
   distances_push [] p s = refl
   distances_push (x ∷ ps) p s = ap (λ z. dist x.element s.element ∷ z) (distances_push ps p s)
 
-  pub getD_distances : (ps : List (Sample E)) (s : Sample E) (i d : ℕ) (p : Sample E) → i < length ps → get_or (distances dist ps s) i d ≡ dist (get_or ps i p).element s.element
-  getD_distances [] s i d p l = absurd (omega arith)
-  getD_distances (x ∷ ps) s zero d p l = refl
-  getD_distances (x ∷ ps) s (suc i) d p l = getD_distances ps s i d p (omega arith)
+  pub get_or_distances : (ps : List (Sample E)) (s : Sample E) (i d : ℕ) (p : Sample E) → i < length ps → get_or (distances dist ps s) i d ≡ dist (get_or ps i p).element s.element
+  get_or_distances [] s i d p l = absurd (omega arith)
+  get_or_distances (x ∷ ps) s zero d p l = refl
+  get_or_distances (x ∷ ps) s (suc i) d p l = get_or_distances ps s i d p (omega arith)
 
   -- after the first pivot
   pub gap_first : (p s : Sample E) → gap dist (p ∷ []) s ≡ dist p.element s.element
