@@ -2,6 +2,7 @@
 #![tactic(auto)]
 
 mod poses;
+mod tell;
 
 use poses::trees;
 use std::io;

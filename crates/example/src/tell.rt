@@ -1,13 +1,11 @@
 // One call of an index, told in plain words.
-#![tactic(auto)]
-
 use hits::Hit;
 use index::index::Index;
 use index::refusal::Refusal;
 use std::fmt::Debug;
 use std::io;
 
-pub fn tell_refusal(rt: &HostRuntime, refusal: Refusal) -> io::Result<()> {
+fn tell_refusal(rt: &HostRuntime, refusal: Refusal) -> io::Result<()> {
     let number = refusal.number();
     println!(rt; "refused by {number}: {refusal}")
 }

@@ -1,0 +1,104 @@
+// One call of an index, told in plain words.
+use hits::Hit;
+use index::index::Index;
+use index::refusal::Refusal;
+use std::fmt::Debug;
+use std::io;
+
+pub fn tell_refusal(rt: &HostRuntime, refusal: Refusal) -> io::Result<()> {
+    let number = refusal.number();
+    println!(rt; "refused by {number}: {refusal}")
+}
+
+pub fn tell_add<I: Index>(rt: &HostRuntime, index: &mut I, e: I::Element) -> io::Result<()>
+where
+    I::Element: Debug,
+    requires { I.sound index.old }
+    ensures { I.sound index.new }
+{
+    print!(rt; "  add {e:?}: ")?;
+    match index.add(e) {
+        Ok(number) => println!(rt; "filed as sample {number}"),
+        Err(refusal) => tell_refusal(rt, refusal),
+    }
+}
+
+pub fn tell_drop<I: Index>(rt: &HostRuntime, index: &mut I, number: u16) -> io::Result<()>
+    requires { I.sound index.old }
+    ensures { I.sound index.new }
+{
+    print!(rt; "  drop {number}: ")?;
+    match index.drop(number) {
+        Ok(()) => println!(rt; "taken out"),
+        Err(refusal) => tell_refusal(rt, refusal),
+    }
+}
+
+pub fn tell_element<I: Index>(rt: &HostRuntime, index: &I, number: u16) -> io::Result<()>
+where
+    I::Element: Debug,
+    requires { I.sound index.now }
+{
+    print!(rt; "  element {number}: ")?;
+    match index.element(number) {
+        Ok(element) => println!(rt; "{element:?}"),
+        Err(refusal) => tell_refusal(rt, refusal),
+    }
+}
+
+pub fn tell_tally<I: Index>(rt: &HostRuntime, index: &I) -> io::Result<()>
+    requires { I.sound index.now }
+{
+    let (capacity, standing, last) = index.tally();
+    println!(rt; "  tally: capacity {capacity}, {standing} standing, last number {last}")
+}
+
+fn tell_hits(rt: &HostRuntime, hits: &[Hit]) -> io::Result<()> {
+    for hit in hits {
+        let number = hit.number;
+        let distance = hit.distance;
+        print!(rt; ", sample {number} at {distance}")?;
+    }
+    println!(rt; "")
+}
+
+pub fn tell_near<I: Index>(
+    rt: &HostRuntime,
+    index: &I,
+    q: &I::Element,
+    k: usize,
+    list: &mut [Hit],
+) -> io::Result<()>
+where
+    I::Element: Debug,
+    requires { I.sound index.now }
+{
+    print!(rt; "  the {k} nearest to {q:?}: ")?;
+    match index.near(q, k, list) {
+        Ok(count) => {
+            print!(rt; "{count} written")?;
+            match list.get(0..count) {
+                Some(hits) => tell_hits(rt, hits),
+                None => Ok(()),
+            }
+        }
+        Err(refusal) => tell_refusal(rt, refusal),
+    }
+}
+
+pub fn tell_within<I: Index>(
+    rt: &HostRuntime,
+    index: &I,
+    q: &I::Element,
+    radius: u32,
+    list: &mut [Hit],
+) -> io::Result<()>
+where
+    I::Element: Debug,
+    requires { I.sound index.now }
+{
+    let found = index.within(q, radius, list);
+    let written = found.min(list.len());
+    print!(rt; "  within {radius} of {q:?}: {found} found, {written} written")?;
+    tell_hits(rt, &list[0..written])
+}
