@@ -3,7 +3,7 @@ use Rattle.std.specs.Prelude.{◌≡◌, ℕ, List}
 use Rattle.std.proofs.Common.{ap, sym, ◌∙◌}
 use Rattle.arm.specs.declared.Arm.{Arm}
 use Rattle.arm.specs.Swings.{swing_symmetric}
-use Rattle.checker.specs.Every.{every}
+use Rattle.std.specs.List.{list_all}
 use Rattle.checker.proofs.Seen.{every_reverse}
 use Rattle.turning.specs.Motions.{motion}
 use Rattle.turning.proofs.Reversal.{joints_same, motion_back}
@@ -15,7 +15,7 @@ use Rattle.arm_checkers.specs.Passes.{outside, step_passes, swept, swept_box, bo
 
 pub step_symmetric : (walls : List Wall) (e f : Arm) → step_passes walls e f ≡ step_passes walls f e
 unfolding step_passes
-step_symmetric walls e f = sym (ap (every (outside walls)) (motion_back e f) ∙ every_reverse (outside walls) (motion e f))
+step_symmetric walls e f = sym (ap (list_all (outside walls)) (motion_back e f) ∙ every_reverse (outside walls) (motion e f))
 
 swept_same : (a b : ℕ) → swept b a ≡ swept a b
 unfolding swept
@@ -30,4 +30,4 @@ box_back e f =
 
 pub box_symmetric : (walls : List Wall) (e f : Arm) → box_passes walls e f ≡ box_passes walls f e
 unfolding box_passes
-box_symmetric walls e f = ap (λ box. every (λ w. apart w box) walls) (sym (box_back e f))
+box_symmetric walls e f = ap (λ box. list_all (λ w. apart w box) walls) (sym (box_back e f))

@@ -26,12 +26,10 @@ impl CardWall {
     pub fn is_clear(&self, a: &Card, b: &Card) -> bool
         ensures { result ≡ clear self.now a.now b.now }
     {
-        for i in 0..8 {
-            if is_free(self.slots[i], a.slots[i], b.slots[i]) {
-                return true;
-            }
-        }
-        false
+        self.slots
+            .iter()
+            .zip(a.slots.iter().zip(b.slots.iter()))
+            .any(|(asked, (first, second))| is_free(*asked, *first, *second))
     }
 }
 

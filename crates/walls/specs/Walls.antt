@@ -1,7 +1,7 @@
 -- Walls.
 use Rattle.std.specs.Prelude.{ℕ, Bool, not, slice_index, slice_index_or}
 use Rattle.arm.specs.declared.Arm.{Arm}
-use Rattle.checker.specs.Every.{every, some}
+use Rattle.std.specs.List.{list_all, list_any}
 use Rattle.turning.specs.Motions.{joints}
 use Rattle.walls.specs.declared.arc.Arc.{Arc}
 use Rattle.walls.specs.declared.wall.Wall.{Wall}
@@ -19,7 +19,7 @@ joint_in w e i = in_arc (arc_at w i) (angle_at e i)
 
 -- a pose is in a wall if that holds of each joint
 unfoldable pub in_wall : Wall → Arm → Bool
-in_wall w e = every (joint_in w e) joints
+in_wall w e = list_all (joint_in w e) joints
 
 -- the arcs of a joint do not meet
 abbrev pub joint_apart : Wall → Wall → ℕ → Bool
@@ -27,4 +27,4 @@ joint_apart w v i = not (meet (arc_at w i) (arc_at v i))
 
 -- two walls are apart if that holds of some joint
 unfoldable pub apart : Wall → Wall → Bool
-apart w v = some (joint_apart w v) joints
+apart w v = list_any (joint_apart w v) joints

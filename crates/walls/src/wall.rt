@@ -15,23 +15,19 @@ impl Wall {
     pub fn contains(&self, pose: &Arm) -> bool
         ensures { result ≡ in_wall self.now pose.now }
     {
-        for i in 0..6 {
-            if !self.arcs[i].contains(pose.angles[i]) {
-                return false;
-            }
-        }
-        true
+        self.arcs
+            .iter()
+            .zip(pose.angles.iter())
+            .all(|(arc, angle)| arc.contains(*angle))
     }
 
     // Whether there is a joint whose arcs do not meet.
     pub fn is_apart(&self, other: &Wall) -> bool
         ensures { result ≡ apart self.now other.now }
     {
-        for i in 0..6 {
-            if !self.arcs[i].meets(&other.arcs[i]) {
-                return true;
-            }
-        }
-        false
+        self.arcs
+            .iter()
+            .zip(other.arcs.iter())
+            .any(|(one, other)| !one.meets(other))
     }
 }

@@ -1,15 +1,15 @@
-use Rattle.std.proofs.Common.{sym}
-use Rattle.checker.proofs.Seen.{below_more, below_all, below_fault}
-use Rattle.walls.specs.Walls.{joint_in, in_wall}
+use Rattle.std.proofs.Common.{ℕ, ◌∙◌, rules, tests}
+use Rattle.std.proofs.lemmas.Iterator.{YieldsList-from_slice, YieldsList-from_zip}
+use Rattle.std.proofs.lemmas.Iterator.Search.{all_from_yields_List}
+use Rattle.checker.proofs.Zipped.{all_zipped}
+use Rattle.walls.specs.declared.arc.Arc.{Arc}
+use Rattle.walls.specs.Arcs.{in_arc}
+use Rattle.walls.specs.Walls.{in_wall}
 use Rattle.walls.proofs.wall.Wall.contains.Goals as goal
-
-pub returns-then-not-contains : goal.returns-then-not-contains
-unfolding in_wall
-returns-then-not-contains c = sym (below_fault (joint_in c.args.self.now c.args.pose.now) 6 c.loop-i.i c.loop-i-test.true (sym c.if-not-contains.ensures))
-
-pub loop-i-preserved : goal.loop-i-preserved
-loop-i-preserved c = below_more (joint_in c.args.self.now c.args.pose.now) c.loop-i.i c.loop-i.invariant (sym c.if-not-contains.ensures)
 
 pub returns : goal.returns
 unfolding in_wall
-returns c = sym (below_all (joint_in c.args.self.now c.args.pose.now) 6 c.loop-i.i c.loop-i-test.false c.loop-i.invariant)
+returns c =
+    let angles = c.args.pose.now.angles in
+    all_from_yields_List (λ (p : Arc × ℕ). in_arc p.0 p.1) c.all.new.self _ c.all.result c.all.ensures.ran (YieldsList-from_zip (YieldsList-from_slice c.args.self.now.arcs cc) (YieldsList-from_slice angles cc)) (λ x b q k. search (rules, tests))
+    ∙ all_zipped in_arc (record { start = 0; extent = 0 }) 0 6 c.args.self.now.arcs angles (search rules) (search rules)
