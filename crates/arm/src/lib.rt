@@ -46,12 +46,13 @@ pub fn swing(from: u16, to: u16) -> u32
 impl Metric for Arm {
     ghost dist = { pose_distance };
 
-    ghost top = { 180224 };
+    ghost GREATEST = { 180224 };
 
     ghost laws = { arm_lawful };
 
     const GREATEST: u32 = 180224;
 
+    // Written out as the rule has it: a table of weights, zipped and summed, is no plainer.
     fn distance(&self, other: &Self) -> u32 {
         let a = self.angles;
         let b = other.angles;
@@ -61,9 +62,5 @@ impl Metric for Arm {
             + 8 * swing(a[3], b[3])
             + 4 * swing(a[4], b[4])
             + 4 * swing(a[5], b[5])
-    }
-
-    fn greatest_distance() -> u32 {
-        Self::GREATEST
     }
 }

@@ -45,14 +45,8 @@ pub fn island(links: &[Links], at: usize) -> u16
 {
     let mut edges = [NO_EDGE; 8192];
     let mut costs = [0; 1024];
-    island_in(links, at, &mut edges, &mut costs[0..links.len()])
-}
-
-fn island_in(links: &[Links], at: usize, edges: &mut [Edge], costs: &mut [u64]) -> u16
-    requires { (Good links.now) × ((at < length links.now) × ((length costs.old ≡ length links.now) × (8 * length links.now ≤ length edges.old))) }
-    ensures { Island (Standing links.now) (Linked (edges_of links.now)) (number_at links.now at) result }
-{
-    survey(links, at, edges, costs);
+    let costs = &mut costs[0..links.len()];
+    survey(links, at, &mut edges, costs);
     first_number(links, costs)
 }
 
@@ -69,29 +63,8 @@ pub fn route(
 {
     let mut edges = [NO_EDGE; 8192];
     let mut costs = [0; 1024];
-    route_in(
-        links,
-        start,
-        goal,
-        list,
-        &mut edges,
-        &mut costs[0..links.len()],
-    )
-}
-
-fn route_in(
-    links: &[Links],
-    start: usize,
-    goal: usize,
-    list: &mut [u16],
-    edges: &mut [Edge],
-    costs: &mut [u64],
-) -> Result<(u32, u16), Refusal>
-    requires ends { (Good links.now) × ((start < length links.now) × (goal < length links.now)) }
-    requires room { (length costs.old ≡ length links.now) × (8 * length links.now ≤ length edges.old) }
-    ensures { Routed (Standing links.now) (Linked (edges_of links.now)) (number_at links.now start) (number_at links.now goal) list.old (told result) list.new }
-{
-    let made = survey(links, goal, edges, costs);
+    let costs = &mut costs[0..links.len()];
+    let made = survey(links, goal, &mut edges, costs);
     let cost = costs[start];
     if cost >= NONE {
         return Err(Refusal::NotJoined);

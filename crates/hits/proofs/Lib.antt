@@ -2,4 +2,5 @@ pub mod Precedence
 pub mod Putting
 pub mod Ranking
 pub mod Keeping
-pub mod Sifts
+pub mod Placing
+pub mod Closing

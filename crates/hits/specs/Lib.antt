@@ -1,4 +1,3 @@
 pub mod Order
 pub mod Lists
 pub mod Samples
-pub mod Sifting

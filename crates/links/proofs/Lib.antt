@@ -1,3 +1,2 @@
 pub mod Resolving
-pub mod Closing
 pub mod Changing

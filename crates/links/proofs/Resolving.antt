@@ -1,16 +1,22 @@
 -- Finding records, and writing their edges by place. Assumes nothing.
-use Rattle.std.proofs.Common.{◌≡◌, ℕ, zero, suc, ◌+◌, ◌<◌, ◌≤◌, Bool, true, false, cond, eqb, ◌⊎◌, List, [], ◌∷◌, ◌++◌, map, length, get_or, take, set, filter, sym, refl, ap, ◌∙◌, subst, inl, inr, arith, length-take}
+use Rattle.std.proofs.Common.{◌≡◌, ℕ, zero, suc, ◌+◌, ◌<◌, ◌≤◌, Bool, true, false, cond, eqb, ◌⊎◌, List, [], ◌∷◌, ◌++◌, map, length, get_or, take, set, filter, Less, Equal, Greater, Ok, Err, Result, sym, refl, ap, ◌∙◌, subst, inl, inr, arith}
 use Rattle.std.specs.List.{flat_map, AllByRecursion}
-use Rattle.std.proofs.lemmas.List.{length-map, get_or-map, take_more_set, map_push, append_assoc, append-nil, take_more, get_or-take}
+use Rattle.std.specs.List.Sorted.{IsBinarySearchResult}
+use Rattle.std.specs.Ordering.{nat_cmp, is_lt}
+use Rattle.std.specs.Result.{MatchResult, result_ok}
+use Rattle.std.proofs.lemmas.Cmp.{ranked, nat_cmp_total}
+use Rattle.std.proofs.lemmas.List.Sorted.{searchable_from_sorted}
+use Rattle.std.proofs.lemmas.Bool.Decides.{nat_tests}
+use Rattle.std.proofs.lemmas.List.{length-map, get_or-map, take_more_set, map_push, append_assoc, append-nil, take_more}
 use Rattle.std.proofs.lemmas.List.Elements.{filter_more}
 use Rattle.std.proofs.ByRecursion.{All-push, All-get_or}
-use Rattle.std.proofs.lemmas.Bool.{cases_lt, cases_order, ne_eqb, eq-eqb, or_from, or_right, or_left}
+use Rattle.std.proofs.lemmas.Bool.{cases_lt, ne_eqb, eq-eqb, or_from, or_right, or_left}
 use Rattle.hits.specs.declared.Hit.{Hit}
 use Rattle.chains.specs.declared.Edge.{Edge}
 use Rattle.chains.specs.Edges.{edge, renamed, Inside, Rises}
 use Rattle.chains.proofs.Places.{rises_at}
 use Rattle.links.specs.declared.Links.{Links}
-use Rattle.links.specs.Records.{numbers, number_at, elders, Sound, has, edge_to, record_edges, Resolved, OneMore}
+use Rattle.links.specs.Records.{numbers, number_at, elders, Sound, has, edge_to, record_edges, Resolved, OneMore, Found}
 
 pub number_is : (links : List Links) (i : ℕ) (d : Links) → i < length links → (get_or links i d).number ≡ number_at links i
 number_is links i d l = sym (get_or-map (λ r. r.number) links i d 0 l)
@@ -95,28 +101,7 @@ module _ (links : List Links) where
     named = o.named d ∙ (ap (λ z. z ++ record_edges (numbers links) (get_or links at d)) s.named ∙ sym (joined_more (record_edges (numbers links)) links at d l));
   }
 
--- halving: what lies before a smaller number is smaller, what lies behind a larger one larger
-module _ (links : List Links) (rise : Rises 0 (numbers links)) (n middle : ℕ) (l : middle < length links) where
-  many : length (numbers links) ≡ length links
-  many = length-map links (λ r. r.number)
-
-  pub before_middle : number_at links middle < n → (i : ℕ) → i < middle + 1 → number_at links i < n
-  before_middle m i k = go (cases_order i middle)
-    where
-      go : (i ≡ middle) ⊎ ((i < middle) ⊎ (middle < i)) → number_at links i < n
-      go (inl e) = omega (arith, ap (number_at links) e)
-      go (inr (inl e)) = omega (arith, rises_at 0 (numbers links) i middle rise e (omega (arith, many)))
-      go (inr (inr e)) = absurd (omega arith)
-
-  pub from_middle : n < number_at links middle → (i : ℕ) → middle ≤ i → i < length links → n < number_at links i
-  from_middle m i k b = go (cases_order i middle)
-    where
-      go : (i ≡ middle) ⊎ ((i < middle) ⊎ (middle < i)) → n < number_at links i
-      go (inl e) = omega (arith, ap (number_at links) e)
-      go (inr (inl e)) = absurd (omega arith)
-      go (inr (inr e)) = omega (arith, rises_at 0 (numbers links) middle i rise e (omega (arith, many)))
-
-pub nowhere : (links : List Links) (n low high : ℕ) → high ≤ low → ((i : ℕ) → i < low → number_at links i < n) → ((i : ℕ) → high ≤ i → i < length links → n < number_at links i) → has (numbers links) n ≡ false
+nowhere : (links : List Links) (n low high : ℕ) → high ≤ low → ((i : ℕ) → i < low → number_at links i < n) → ((i : ℕ) → high ≤ i → i < length links → n < number_at links i) → has (numbers links) n ≡ false
 nowhere links n low high h below above = has_not (numbers links) n none
   where
     none : (i : ℕ) → i < length (numbers links) → get_or (numbers links) i 0 ≡ n → ⊥
@@ -125,6 +110,24 @@ nowhere links n low high h below above = has_not (numbers links) n none
         go : (i < low) ⊎ (low ≤ i) → ⊥
         go (inl x) = omega (arith, below i x)
         go (inr x) = omega (arith, above i (omega arith) (omega (arith, length-map links (λ r. r.number))))
+
+falls : (a b : ℕ) → a < b → is_lt (nat_cmp b a) ≡ false
+falls a b l = grind (arith, nat_tests)
+
+-- what a search by halving finds among records by rising number
+pub found_by : (links : List Links) → Rises 0 (numbers links) → (n : ℕ) (r : Result ℕ ℕ) → MatchResult r (λ i. i < length links) (λ i. i ≤ length links) → IsBinarySearchResult (λ y. nat_cmp y.number n) links r → Found n links (result_ok r)
+found_by links rise n (Ok i) b p =
+    let d : Links = record { number = 0; count = 0; elders = [] } in
+    (b, sym (number_is links i d b) ∙ ranked (get_or links i d).number n Equal (sym (p d)))
+found_by links rise n (Err i) b p =
+    let d : Links = record { number = 0; count = 0; elders = [] } in
+    let many = length-map links (λ r. r.number) in
+    let up : (k : ℕ) (e : Links) → 0 ≤ k → k + 1 < length links → is_lt (nat_cmp (get_or links (k + 1) e).number (get_or links k e).number) ≡ false =
+    λ k e _ l. falls (get_or links k e).number (get_or links (k + 1) e).number (omega (arith, number_is links k e (omega arith), number_is links (k + 1) e l, rises_at 0 (numbers links) k (k + 1) rise (omega arith) (omega (arith, many)))) in
+    let parts = p (searchable_from_sorted nat_cmp_total (λ r. r.number) links n up) in
+    nowhere links n i i (omega arith)
+    (λ k l. let m = ranked (get_or links k d).number n Less (sym (parts.0 k d (omega arith) l)) in omega (arith, number_is links k d (omega arith)))
+    (λ k l h. let m = ranked (get_or links k d).number n Greater (sym (parts.1 k d l h)) in omega (arith, number_is links k d h))
 
 pub all_resolved : (links : List Links) (at : ℕ) (edges : List Edge) (n : ℕ) → length links ≤ at → at ≤ length links → Resolved links at edges n → Resolved links (length links) edges n
 all_resolved links at edges n a b r =
@@ -136,12 +139,8 @@ all_resolved links at edges n a b r =
 pub record_sound : (links : List Links) (at : ℕ) → at < length links → AllByRecursion Sound links → Sound (get_or links at (record { number = 0; count = 0; elders = [] }))
 record_sound links at l all = All-get_or Sound links at (record { number = 0; count = 0; elders = [] }) l all
 
-pub elder_short : (r : Links) (i : ℕ) → Sound r → i < r.count → (get_or r.elders i (record { number = 0; distance = 0 })).distance ≤ 1048576
-elder_short r i s l =
-    let d : Hit = record { number = 0; distance = 0 } in
-    let P : Hit → Type 0 = λ h. (h.number < r.number) × (h.distance ≤ 1048576) in
-    let p = All-get_or P (elders r) i d (simp length-take (omega (arith, s.places, s.count_bound))) s.elder in
-    omega (arith, p.1, ap (λ h. h.distance) (get_or-take r.count r.elders i d l))
+pub elder_short : (r : Links) (i : ℕ) → Sound r → i < length (elders r) → (get_or (elders r) i (record { number = 0; distance = 0 })).distance ≤ 1048576
+elder_short r i s l = (All-get_or (λ h. (h.number < r.number) × (h.distance ≤ 1048576)) (elders r) i (record { number = 0; distance = 0 }) l s.elder).1
 
 pub so_far_as : (links : List Links) (r : Links) (before : List Edge) (made : ℕ) (xs ys : List Edge) (a b i : ℕ) → xs ≡ ys → a ≡ b → SoFar links r before made ys b i → SoFar links r before made xs a i
 so_far_as links r before made xs ys a b i e f s =

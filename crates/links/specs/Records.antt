@@ -1,5 +1,5 @@
 -- The edges that records hold.
-use Rattle.std.specs.Prelude.{◌≡◌, ℕ, ◌+◌, ◌*◌, ◌<◌, ◌≤◌, Bool, false, cond, ◌||◌, List, [], ◌∷◌, ◌++◌, map, length, take, drop, Some, None, filter, Option, ◌==◌, slice_index, slice_index_or, slice_range}
+use Rattle.std.specs.Prelude.{◌≡◌, ℕ, ◌+◌, ◌*◌, ◌<◌, ◌≤◌, Bool, false, cond, ◌||◌, List, [], ◌∷◌, ◌++◌, map, length, take, Some, None, filter, Option, ◌==◌, slice_index, slice_index_or}
 use Rattle.std.specs.List.{flat_map, AllByRecursion}
 use Rattle.hits.specs.declared.Hit.{Hit}
 use Rattle.chains.specs.declared.Edge.{Edge}
@@ -59,14 +59,6 @@ pub record OneMore (links : List Links) (at : ℕ) (before : List Edge) (made : 
   pub few : n ≤ made + 8
   pub inside : AllByRecursion (Inside (length links)) (take made before) → AllByRecursion (Inside (length links)) (take n after)
   pub named : (d : Links) → map (renamed (number_at links)) (take n after) ≡ map (renamed (number_at links)) (take made before) ++ record_edges (numbers links) (slice_index_or links at d)
-
--- the records from `at` up to `used`
-abbrev pub part : ℕ → ℕ → List Links → List Links
-part at used links = slice_range links at used
-
--- the record at `at` goes behind the others in use
-abbrev pub closed : ℕ → ℕ → List Links → List Links
-closed at used links = take at links ++ ((drop 1 (part at used links) ++ take 1 (part at used links)) ++ drop used links)
 
 -- where the record of a number is, or nowhere
 abbrev pub Found : ℕ → List Links → Option ℕ → Type 0

@@ -4,7 +4,7 @@
 ghost use Rattle.std.specs.Prelude.{◌≡◌, ◌*◌, ◌<◌, ◌≤◌, map, length, replicate};
 ghost use Rattle.std.specs.List.{AllByRecursion};
 ghost use Rattle.chains.specs.Edges.{Rises};
-ghost use Rattle.links.specs.Records.{numbers, number_at, Good, Resolved, OneMore, closed, Found};
+ghost use Rattle.links.specs.Records.{numbers, number_at, Good, Resolved, OneMore, Found};
 
 use chains::Edge;
 use hits::Hit;
@@ -34,33 +34,14 @@ impl Links {
     }
 }
 
-// The place of the record of this number, by halving.
+// The place of the record of this number.
 pub fn find(links: &[Links], number: u16) -> Option<usize>
     requires { Rises 0 (numbers links.now) }
     ensures { Found number links.now result }
 {
-    let mut low = 0;
-    let mut high = links.len();
-    while low < high {
-        let middle = low + (high - low) / 2;
-        if links[middle].number == number {
-            return Some(middle);
-        }
-        if links[middle].number < number {
-            low = middle + 1;
-        } else {
-            high = middle;
-        }
-    }
-    None
-}
-
-// Takes one of the first `used` records out, and moves those behind it one place down.
-pub fn close_up(links: &mut [Links], at: usize, used: usize)
-    requires { (at < used) × (used ≤ length links.old) }
-    ensures { links.new ≡ closed at used links.old }
-{
-    links[at..used].rotate_left(1);
+    links
+        .binary_search_by_key(&number, |record| record.number)
+        .ok()
 }
 
 // Writes the standing edges of one record behind the first `made`, by place. How many there are then.
@@ -72,8 +53,7 @@ fn resolve_one(links: &[Links], at: usize, edges: &mut [Edge], made: usize) -> u
 {
     let record = links[at];
     let mut all = made;
-    for i in 0..record.count as usize {
-        let elder = record.elders[i];
+    for elder in &record.elders[..record.count as usize] {
         if let Some(place) = find(links, elder.number) {
             edges[all] = Edge {
                 elder: place as u16,
@@ -93,6 +73,7 @@ pub fn resolve(links: &[Links], edges: &mut [Edge]) -> usize
     ensures { Resolved links.now (length links.now) edges.new result }
 {
     let mut made = 0;
+    // By places, which are what the edges are written by.
     for at in 0..links.len() {
         made = resolve_one(links, at, edges, made);
     }
@@ -104,7 +85,7 @@ pub fn rename(links: &[Links], list: &mut [u16])
     requires { AllByRecursion (λ at. at < length links.now) list.old }
     ensures { list.new ≡ map (number_at links.now) list.old }
 {
-    for i in 0..list.len() {
-        list[i] = links[list[i] as usize].number;
+    for place in list.iter_mut() {
+        *place = links[*place as usize].number;
     }
 }

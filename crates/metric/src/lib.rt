@@ -10,9 +10,10 @@ ghost use Rattle.metric.specs.Paths.{measured};
 pub trait Metric: Copy {
     ghost dist: { Self → Self → ℕ };
 
-    ghost top: { ℕ };
+    // The constant of this name, as a clause reads it.
+    ghost GREATEST: { ℕ };
 
-    ghost laws: { MetricLaws top dist };
+    ghost laws: { MetricLaws GREATEST dist };
 
     // No distance exceeds it, and it is at most 1,048,576.
     const GREATEST: u32;
@@ -20,9 +21,11 @@ pub trait Metric: Copy {
     fn distance(&self, other: &Self) -> u32
         ensures { result ≡ dist self.now other.now };
 
-    // The constant. A clause cannot name it, so this call ties it to the laws.
     fn greatest_distance() -> u32
-        ensures { result ≡ top };
+        ensures { result ≡ GREATEST }
+    {
+        Self::GREATEST
+    }
 }
 
 // How long a path of elements is: the sum of its steps. A path has at most 1,024 elements, and
@@ -34,8 +37,8 @@ pub fn path_length<M: Metric>(path: &[M]) -> Option<u32>
         return None;
     }
     let mut total = 0;
-    for i in 1..path.len() {
-        total += path[i - 1].distance(&path[i]);
+    for step in path.windows(2) {
+        total += step[0].distance(&step[1]);
     }
     Some(total)
 }

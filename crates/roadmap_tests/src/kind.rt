@@ -17,7 +17,7 @@ pub struct Spot {
 impl Metric for Spot {
     ghost dist = { spot_distance };
 
-    ghost top = { 40 };
+    ghost GREATEST = { 40 };
 
     ghost laws = { spot_lawful };
 
@@ -30,10 +30,6 @@ impl Metric for Spot {
             self.place - other.place
         };
         u32::from(apart).min(40)
-    }
-
-    fn greatest_distance() -> u32 {
-        Self::GREATEST
     }
 }
 

@@ -1,8 +1,8 @@
 -- The walk along a chain of least cost, step by step. Assumes nothing.
 use Rattle.std.proofs.Common.{◌≡◌, ℕ, ◌+◌, ◌-◌, ◌*◌, ◌%◌, ◌<◌, ◌≤◌, Bool, true, false, cond, ◌&&◌, eqb, ltb, ◌⊎◌, List, [], ◌∷◌, ◌++◌, length, get_or, drop, set, sym, refl, ap, ◌∙◌, subst, inl, inr, ⊎_elim, arith, length-append}
 use Rattle.std.specs.List.{AllByRecursion}
-use Rattle.std.proofs.lemmas.List.{get_or_default, append_assoc, set-append_right, drop_more}
-use Rattle.std.proofs.lemmas.Bool.{cases_eq, eq-eqb, ne_eqb, eqb-true, ltb-true, eqb-false, ltb-false}
+use Rattle.std.proofs.lemmas.List.{append_assoc, set-append_right, drop_more}
+use Rattle.std.proofs.lemmas.Bool.{eqb-true, ltb-true, eqb-false, ltb-false}
 use Rattle.hits.specs.Samples.{Among}
 use Rattle.hits.specs.Lists.{over}
 use Rattle.chains.specs.declared.Edge.{Edge}
@@ -10,25 +10,7 @@ use Rattle.chains.specs.Chains.{Route}
 use Rattle.chains.specs.Edges.{edge, Linked, Inside}
 use Rattle.chains.specs.Costs.{none, step_cost, cost_at, Settled, Onward}
 use Rattle.chains.proofs.Settling as settling
-use Rattle.routing.specs.Walks.{leads_on, onward_or, Walked, First}
-
-module _ (costs : List ℕ) (from to d : ℕ) (inF : from < length costs) (inT : to < length costs) where
-  at_from : get_or costs from 0 ≡ cost_at costs from
-  at_from = get_or_default costs from 0 none inF
-
-  at_to : get_or costs to 0 ≡ cost_at costs to
-  at_to = get_or_default costs to 0 none inT
-
-  -- a step up leads nowhere
-  pub not_on : get_or costs from 0 < get_or costs to 0 → false ≡ leads_on costs from to d
-  not_on l = sym (ne_eqb (cost_at costs to + step_cost d) (cost_at costs from) (λ e. omega (arith, at_from, at_to)))
-
-  pub tight_is : get_or costs to 0 ≤ get_or costs from 0 → (s : ℕ) → s ≡ step_cost d → eqb (get_or costs from 0 - get_or costs to 0) s ≡ leads_on costs from to d
-  tight_is l s e = go (cases_eq (get_or costs from 0 - get_or costs to 0) s)
-    where
-      go : (get_or costs from 0 - get_or costs to 0 ≡ s) ⊎ (get_or costs from 0 - get_or costs to 0 ≡ s → ⊥) → eqb (get_or costs from 0 - get_or costs to 0) s ≡ leads_on costs from to d
-      go (inl x) = eq-eqb (get_or costs from 0 - get_or costs to 0) s x ∙ sym (eq-eqb (cost_at costs to + step_cost d) (cost_at costs from) (omega (arith, at_from, at_to)))
-      go (inr x) = ne_eqb (get_or costs from 0 - get_or costs to 0) s x ∙ sym (ne_eqb (cost_at costs to + step_cost d) (cost_at costs from) (λ y. x (omega (arith, at_from, at_to))))
+use Rattle.routing.specs.Walks.{leads_on, onward_or, Walked}
 
 -- what one way over one edge makes of the best so far
 module _ (costs : List ℕ) (at from to d best : ℕ) where
@@ -220,10 +202,3 @@ module _ (edges : List Edge) (goal : ℕ) (costs : List ℕ) (few : length costs
           route = x.1;
           writes = ap (λ z. set z written at) w.writes ∙ over_set w.places old written at w.count (walk_room room);
         }
-
--- no cost before i
-pub first_here : (costs : List ℕ) (i : ℕ) → i < length costs → ((k : ℕ) → k < i → none ≤ cost_at costs k) → get_or costs i 0 < none → First costs i
-first_here costs i l before x = let e = get_or_default costs i 0 none l in record { has = λ _. omega arith; first = before }
-
-pub first_not : (costs : List ℕ) (i : ℕ) → i < length costs → none ≤ get_or costs i 0 → none ≤ cost_at costs i
-first_not costs i l x = let e = get_or_default costs i 0 none l in omega arith

@@ -10,7 +10,7 @@ ghost use Rattle.routing.specs.Walks.{leads_on, onward_or, Walked, First};
 
 use chains::Edge;
 
-// The cost of what no chain reaches, above that of any chain.
+// The cost of what no chain reaches, above that of any chain: a number, so that costs compare as they are.
 pub const NONE: u64 = 4611686018427387904;
 
 // What a step costs: its length times 65,536 and one more. A chain that repeats no place has at most
@@ -56,8 +56,7 @@ fn sweep(costs: &mut [u64], edges: &[Edge]) -> bool
 {
     let mut lowered = false;
     for edge in edges {
-        let one = relax(costs, edge);
-        lowered = lowered | one;
+        lowered |= relax(costs, edge);
     }
     lowered
 }
@@ -67,9 +66,7 @@ pub fn settle(costs: &mut [u64], edges: &[Edge], goal: usize)
     requires { (goal < length costs.old) × (AllByRecursion (Inside (length costs.old)) edges.now) }
     ensures { Settled edges.now goal costs.new }
 {
-    for i in 0..costs.len() {
-        costs[i] = NONE;
-    }
+    costs.fill(NONE);
     costs[goal] = 0;
     while sweep(costs, edges) {}
 }
@@ -79,10 +76,7 @@ fn leads(costs: &[u64], from: usize, to: usize, apart: u32) -> bool
     requires { (from < length costs.now) × (to < length costs.now) }
     ensures { result ≡ leads_on costs.now from to apart }
 {
-    if costs[to] > costs[from] {
-        return false;
-    }
-    costs[from] - costs[to] == step_cost(apart)
+    costs[to] <= costs[from] && costs[from] - costs[to] == step_cost(apart)
 }
 
 // The better of `best` and `to`: `to`, if it is smaller and an edge leads there on a chain of least cost from `at`.
@@ -133,10 +127,8 @@ pub fn walk(costs: &[u64], edges: &[Edge], start: usize, goal: usize, list: &mut
 pub fn first(costs: &[u64]) -> usize
     ensures { First costs.now result }
 {
-    for i in 0..costs.len() {
-        if costs[i] < NONE {
-            return i;
-        }
-    }
-    costs.len()
+    costs
+        .iter()
+        .position(|cost| *cost < NONE)
+        .unwrap_or(costs.len())
 }

@@ -1,25 +1,35 @@
--- Finding a row, and closing up over one. Assumes nothing.
-use Rattle.std.proofs.Common.{◌≡◌, ℕ, zero, suc, ◌+◌, ◌-◌, ◌<◌, ◌≤◌, cond, List, [], ◌∷◌, ◌++◌, length, get_or, take, drop, Some, None, sym, ap, ◌∙◌, arith, length-append, length-drop, length-take, eq-eqb, ne_eqb}
-use borrow.Rule.Slice.PartMut.{put_mid}
-use Rattle.std.proofs.lemmas.List.{append_assoc, at_drop_more, at_drop_all, drop-drop, take_at, take-take, get_or_default}
-use Rattle.std.proofs.lemmas.Slice.{between_is}
-use Rattle.std.specs.List.{HoldsAt}
+-- Finding a row, and the samples without one. Assumes nothing.
+use Rattle.std.proofs.Common.{◌≡◌, ℕ, zero, suc, ◌<◌, ◌≤◌, cond, List, [], ◌∷◌, ◌++◌, length, get_or, take, drop, Some, None, Option, true, false, ◌==◌, ltb, ltb-false, refl, sym, ap, ◌∙◌, arith, eq-eqb, ne_eqb}
+use Rattle.std.proofs.lemmas.List.{get_or_default}
+use Rattle.std.proofs.lemmas.Bool.{cond_both}
+use Rattle.std.proofs.lemmas.Bool.Decides.{nat_tests}
+use Rattle.std.proofs.lemmas.List.Quantifiers.{position-Some}
+use Rattle.std.proofs.lemmas.List.Sums.{fails_before_first}
+use Rattle.std.proofs.lemmas.Option.{none-some}
+use Rattle.std.specs.List.{HoldsAt, position, position_or_len}
 use Rattle.hits.specs.Samples.{Rising}
 use Rattle.index.specs.Meaning.{element_at, without}
 use Rattle.index.proofs.Standing.{without_below}
 use Rattle.scan.specs.declared.rows.Row.{Row}
-use Rattle.scan.specs.Rows.{sample_of, samples, part, closed}
+use Rattle.scan.specs.Rows.{sample_of, samples, Found}
 
-module _ {E : Type 0} (n : ℕ) (rows : List (Row E)) (i : ℕ) where
-  -- a row of another number is passed over
-  pub not_here : (row : Row E) → i < length rows → ((get_or rows i row).number ≡ n → ⊥) → element_at n (samples (drop i rows)) ≡ element_at n (samples rows) → element_at n (samples (drop (i + 1) rows)) ≡ element_at n (samples rows)
-  not_here row l other inv =
-      let here = at_drop_more (λ z. element_at n (samples z)) rows i row l in
-      let off = ne_eqb (get_or rows i row).number n other in
-      ap (λ t. cond t (Some (get_or rows i row).element) (element_at n (samples (drop (i + 1) rows)))) (sym off) ∙ (sym here ∙ inv)
+module _ {E : Type 0} (n : ℕ) where
+  none_at : (rows : List (Row E)) → ((k : ℕ) (d : Row E) → k < length rows → ((get_or rows k d).number == n) ≡ false) → element_at n (samples rows) ≡ None
+  none_at [] other = refl
+  none_at (x ∷ xs) other = ap (λ t. cond t (Some x.element) (element_at n (samples xs))) (other 0 x (omega arith)) ∙ none_at xs (λ k d l. other (suc k) d (omega arith))
 
-  pub nowhere : length rows ≤ i → element_at n (samples (drop i rows)) ≡ element_at n (samples rows) → element_at n (samples rows) ≡ None
-  nowhere l inv = sym inv ∙ at_drop_all (λ z. element_at n (samples z)) rows i l
+  -- where the first row of a number is, if there is one
+  pub found_first : (rows : List (Row E)) (place : Option ℕ) → place ≡ position (λ row. row.number == n) rows → Found n rows place
+  found_first rows None e =
+      let first = position_or_len (λ row. row.number == n) rows in
+      let beyond : length rows ≤ first =
+      cond_both (ltb first (length rows)) (Some first) None (λ z. None ≡ z → length rows ≤ first) (λ t f. absurd (none-some first f)) (λ t f. ltb-false first (length rows) t) e in
+      none_at rows (λ k d l. fails_before_first (λ row. row.number == n) rows k d (omega (arith, beyond)))
+  found_first [] (Some i) e = absurd (none-some i (sym e))
+  found_first (x ∷ xs) (Some i) e = ((position-Some (λ row. row.number == n) (x ∷ xs) i x (sym e)).0, λ d. same _ (position-Some (λ row. row.number == n) (x ∷ xs) i d (sym e)).1)
+    where
+      same : (m : ℕ) → (m == n) ≡ true → m ≡ n
+      same m t = grind (arith, nat_tests)
 
 module _ {E : Type 0} where
   above : (low high : ℕ) (rows : List (Row E)) (i : ℕ) (d : Row E) → i < length rows → Rising low high (samples rows) → low < (get_or rows i d).number
@@ -51,24 +61,3 @@ module _ {E : Type 0} where
       let up = above x.number high xs i x (omega arith) r.2 in
       ap (λ z. sample_of x ∷ z) (taken_out n x.number high xs i (omega arith) r.2 p)
       ∙ sym (ap (λ t. cond t (without n (samples xs)) (sample_of x ∷ without n (samples xs))) (ne_eqb x.number n (λ f. omega (arith, p x))))
-
-  -- what turning a part of the rows by one leaves
-  pub turned : (at used : ℕ) (rows after : List (Row E)) → at < used → after ≡ drop 1 (part at used rows) ++ take 1 (part at used rows) → put_mid at (used - at) rows after ≡ closed at used rows
-  turned at used rows after l e =
-      let rest : drop (used - at) (drop at rows) ≡ drop used rows = drop-drop (used - at) at rows ∙ ap (λ k. drop k rows) (omega arith) in
-      ap (λ z. take at rows ++ (z ++ drop (used - at) (drop at rows))) e ∙ ap (λ z. take at rows ++ ((drop 1 (part at used rows) ++ take 1 (part at used rows)) ++ z)) rest
-
-  -- the rows in use after closing up: those before without the one taken out
-  pub closed_front : (at used : ℕ) (rows : List (Row E)) → at < used → used ≤ length rows → take (used - 1) (closed at used rows) ≡ take at (take used rows) ++ drop (suc at) (take used rows)
-  closed_front at used rows l b =
-      let mid = drop 1 (part at used rows) in
-      let back = take 1 (part at used rows) ++ drop used rows in
-      let size : length (take at rows ++ mid) ≡ used - 1 = simp (length-append, length-take, length-drop) (omega arith) in
-      let whole : closed at used rows ≡ (take at rows ++ mid) ++ back = ap (λ z. take at rows ++ z) (append_assoc mid (take 1 (part at used rows)) (drop used rows)) ∙ sym (append_assoc (take at rows) mid back) in
-      let left : take at rows ≡ take at (take used rows) = sym (take-take at used rows (omega arith)) in
-      let one : at + 1 ≡ suc at = omega arith in
-      let right : mid ≡ drop (suc at) (take used rows) = ap (drop 1) (between_is rows at used) ∙ (drop-drop 1 at (take used rows) ∙ ap (λ k. drop k (take used rows)) one) in
-      ap (take (used - 1)) whole ∙ (take_at (take at rows ++ mid) back (used - 1) size ∙ (ap (λ z. z ++ mid) left ∙ ap (λ z. take at (take used rows) ++ z) right))
-
-  pub closed_length : (at used : ℕ) (rows : List (Row E)) → at < used → used ≤ length rows → length (closed at used rows) ≡ length rows
-  closed_length at used rows l b = simp (length-append, length-take, length-drop) (omega arith)

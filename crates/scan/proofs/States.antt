@@ -1,24 +1,28 @@
 -- The states of a scan before and after a call. Assumes nothing.
-use Rattle.std.proofs.Common.{◌≡◌, ℕ, ◌+◌, ◌-◌, ◌<◌, ◌≤◌, min, List, [], ◌∷◌, ◌++◌, length, take, drop, set, Some, sym, ap, ◌∙◌, subst, arith, length-set, length-take}
-use Rattle.std.specs.List.{HoldsAt, AllByRecursion}
-use Rattle.std.proofs.lemmas.List.{length-map, map_push, take_more_set, get_or-take, length-take-le, append_assoc, drop-append-le, take-append-drop}
+use Rattle.std.proofs.Common.{◌≡◌, ◌==◌, ℕ, ◌+◌, ◌-◌, ◌<◌, ◌≤◌, min, List, [], ◌∷◌, ◌++◌, length, get_or, take, drop, set, Some, None, Option, Result, refl, sym, ap, ◌∙◌, subst, arith, length-set, length-take}
+use Rattle.std.specs.List.{HoldsAt, AllByRecursion, position}
+use Rattle.std.specs.Option.{ok_or}
+use Rattle.std.proofs.lemmas.List.{length-map, map_push, take_more_set, get_or-take, get_or_default, length-take-le, append_assoc, drop-append-le, take-append-drop}
 use Rattle.metric.specs.Laws.{MetricLaws}
 use Rattle.hits.specs.declared.Hit.{Hit}
 use Rattle.hits.specs.Order.{inside}
-use Rattle.hits.specs.Lists.{over}
+use Rattle.hits.specs.Lists.{over, closed}
 use Rattle.hits.specs.Samples.{Sample, Rising, hits, hit_of, Ranked}
+use Rattle.hits.proofs.Closing.{closed_front, closed_length}
 use Rattle.hits.proofs.Putting.{all_put}
 use Rattle.hits.proofs.Keeping.{inside_all}
 use Rattle.hits.proofs.Ranking.{hits_ranked, length_hits}
 use Rattle.index.specs.Meaning.{Meaning, added, dropped, without, element_at}
 use Rattle.index.specs.Outcomes.{room_outcome}
 use Rattle.index.specs.Calls.{room_of}
+use Rattle.index.specs.declared.refusal.Refusal.{Refusal}
+use Rattle.index.specs.declared.refusal.Refusal.TheVariants.{NotStanding}
 use Rattle.index.proofs.Standing.{rising_push, rising_wider, rising_without}
 use Rattle.scan.specs.declared.rows.Row.{Row}
 use Rattle.scan.specs.declared.scan.Scan.{Scan}
-use Rattle.scan.specs.Rows.{sample_of, samples, closed}
-use Rattle.scan.specs.Scans.{scan_meaning, ScanSound}
-use Rattle.scan.proofs.Closing.{element_here, stands_here, taken_out, closed_front, closed_length}
+use Rattle.scan.specs.Rows.{sample_of, samples, Found}
+use Rattle.scan.specs.Scans.{scan_meaning, ScanSound, HoldsNumberAt, PlaceTold}
+use Rattle.scan.proofs.Closing.{found_first, element_here, stands_here, taken_out}
 
 module _ {E : Type 0} (s : Scan E) (o : ScanSound s) where
   -- as many samples stand as rows are in use
@@ -41,6 +45,14 @@ module _ {E : Type 0} (s : Scan E) (o : ScanSound s) where
 
   pub ranked : (dist : E → E → ℕ) (q : E) → Ranked dist q (scan_meaning s).standing (hits dist q (scan_meaning s).standing)
   ranked dist q = hits_ranked dist q 0 s.last (scan_meaning s).standing o.rising
+
+-- where the sample n is, as a call tells it
+pub place_told : {E : Type 0} (s : Scan E) (o : ScanSound s) (n : ℕ) (place : Option ℕ) (told : Result ℕ Refusal) → place ≡ position (λ row. row.number == n) (take (s.used - 0) s.rows.now) → told ≡ ok_or place (NotStanding n) → PlaceTold s n told
+place_told {E} s o n place told e f = subst (PlaceTold s n) (sym f) (either place (subst (λ rows. Found n rows place) (lent s o) (found_first n (take (s.used - 0) s.rows.now) place e)))
+  where
+    either : (place : Option ℕ) → HoldsNumberAt s n place → PlaceTold s n (ok_or place (NotStanding n))
+    either None h = (refl, h)
+    either (Some at) h = h
 
 -- the first rows after one more is written behind them
 pub pushed : {E : Type 0} (rows : List (Row E)) (used : ℕ) (row : Row E) → used < length rows → samples (take (used + 1) (set rows used row)) ≡ samples (take used rows) ++ (sample_of row ∷ [])
@@ -91,8 +103,10 @@ module _ {E : Type 0} (s : Scan E) (o : ScanSound s) (n at : ℕ) (here : (at < 
   pub stands : (e : E) × (element_at n (scan_meaning s).standing ≡ Some e)
   stands = stands_here n 0 s.last (take s.used s.rows.now) at here.0 o.rising here.1
 
-  pub found_element : (e : E) → HoldsAt (λ row. e ≡ row.element) s.rows.now at → element_at n (scan_meaning s).standing ≡ Some e
-  found_element e q = element_here n 0 s.last (take s.used s.rows.now) at e here.0 o.rising here.1 (λ d. q d ∙ ap (λ row. row.element) (sym (get_or-take s.used s.rows.now at d in_use)))
+  pub found_element : (d : Row E) → element_at n (scan_meaning s).standing ≡ Some (get_or s.rows.now at d).element
+  found_element d =
+      element_here n 0 s.last (take s.used s.rows.now) at (get_or s.rows.now at d).element here.0 o.rising here.1
+      (λ c. ap (λ row. row.element) (get_or_default s.rows.now at d c (omega (arith, in_use, in_rows)) ∙ sym (get_or-take s.used s.rows.now at c in_use)))
 
   -- the state after that row is taken out
   module _ (rows : List (Row E)) (moved : rows ≡ closed at s.used s.rows.now) where

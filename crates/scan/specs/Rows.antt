@@ -1,5 +1,5 @@
 -- The samples that rows hold, and rows closed up over one that is taken out.
-use Rattle.std.specs.Prelude.{◌≡◌, ℕ, ◌-◌, ◌<◌, List, ◌++◌, map, length, take, drop, Some, None, Option}
+use Rattle.std.specs.Prelude.{◌≡◌, ℕ, ◌<◌, List, map, length, Some, None, Option}
 use Rattle.std.specs.List.{HoldsAt}
 use Rattle.hits.specs.Samples.{Sample}
 use Rattle.index.specs.Meaning.{element_at}
@@ -10,14 +10,6 @@ sample_of row = record { number = row.number; element = row.element }
 
 abbrev pub samples : {E : Type 0} → List (Row E) → List (Sample E)
 samples rows = map sample_of rows
-
--- the rows from `at` up to `used`
-abbrev pub part : {E : Type 0} → ℕ → ℕ → List (Row E) → List (Row E)
-part at used rows = take (used - at) (drop at rows)
-
--- the row at `at` goes behind the others in use
-abbrev pub closed : {E : Type 0} → ℕ → ℕ → List (Row E) → List (Row E)
-closed at used rows = take at rows ++ ((drop 1 (part at used rows) ++ take 1 (part at used rows)) ++ drop used rows)
 
 -- where the row with this number is: nowhere, if no sample stands under it
 abbrev pub Found : {E : Type 0} → ℕ → List (Row E) → Option ℕ → Type 0

@@ -1,8 +1,10 @@
 -- What a scan means, and which of its states are sound.
-use Rattle.std.specs.Prelude.{ℕ, ◌≤◌, min, length, take, Option}
+use Rattle.std.specs.Prelude.{◌≡◌, ℕ, ◌≤◌, min, length, take, Some, None, Option, Ok, Err, Result}
 use Rattle.std.proofs.Common.{arith, length-take}
 use Rattle.std.proofs.lemmas.List.{length-map}
 use Rattle.hits.specs.Samples.{Rising}
+use Rattle.index.specs.declared.refusal.Refusal.{Refusal}
+use Rattle.index.specs.declared.refusal.Refusal.TheVariants.{NotStanding}
 use Rattle.index.specs.Meaning.{Meaning, Lawful}
 use Rattle.scan.specs.declared.scan.Scan.{Scan}
 use Rattle.scan.specs.Rows.{samples, Found}
@@ -19,6 +21,11 @@ module _ {E : Type 0} where
   -- where a sample is among the rows in use
   abbrev pub HoldsNumberAt : Scan E → ℕ → Option ℕ → Type 0
   HoldsNumberAt s n place = Found n (take s.used s.rows.now) place
+
+  -- the same as a call tells it: nowhere is a refusal
+  abbrev pub PlaceTold : Scan E → ℕ → Result ℕ Refusal → Type 0
+  PlaceTold s n (Ok at) = HoldsNumberAt s n (Some at)
+  PlaceTold s n (Err refusal) = (refusal ≡ NotStanding n) × HoldsNumberAt s n None
 
   pub scan_lawful : (s : Scan E) → ScanSound s → Lawful (scan_meaning s)
   scan_lawful s o = record {

@@ -1,10 +1,10 @@
 // The rows of a scan: its samples by rising number, from the first row on.
-ghost use Rattle.std.specs.Prelude.{◌≡◌, ◌<◌, ◌≤◌, length, take, slice_set};
-ghost use Rattle.std.specs.List.{HoldsAt};
+ghost use Rattle.std.specs.Prelude.{◌≡◌, ◌≤◌, ◌==◌, length, take};
+ghost use Rattle.std.specs.List.{position};
 ghost use Rattle.hits.specs.Lists.{over};
 ghost use Rattle.hits.specs.Order.{inside};
 ghost use Rattle.hits.specs.Samples.{Rising, hits};
-ghost use Rattle.scan.specs.Rows.{samples, closed, Found};
+ghost use Rattle.scan.specs.Rows.{samples};
 
 use hits::{Hit, place};
 use metric::Metric;
@@ -25,40 +25,11 @@ impl<E: Metric> Row<E> {
     }
 }
 
-// The place of the row with this number.
+// The place of the first row with this number.
 pub(crate) fn find<E: Metric>(rows: &[Row<E>], number: u16) -> Option<usize>
-    ensures { Found number rows.now result }
+    ensures { result ≡ position (λ row. row.number == number) rows.now }
 {
-    for i in 0..rows.len() {
-        if rows[i].number == number {
-            return Some(i);
-        }
-    }
-    None
-}
-
-// The element of a row.
-pub(crate) fn element_in<E: Metric>(rows: &[Row<E>], at: usize) -> E
-    requires { at < length rows.now }
-    ensures { HoldsAt (λ row. result ≡ row.element) rows.now at }
-{
-    rows[at].element
-}
-
-// Writes a row.
-pub(crate) fn write<E: Metric>(rows: &mut [Row<E>], at: usize, row: Row<E>)
-    requires { at < length rows.old }
-    ensures { rows.new ≡ slice_set rows.old at row }
-{
-    rows[at] = row;
-}
-
-// Takes one of the first `used` rows out, and moves those behind it one place down.
-pub(crate) fn close_up<E: Metric>(rows: &mut [Row<E>], at: usize, used: usize)
-    requires { (at < used) × (used ≤ length rows.old) }
-    ensures { rows.new ≡ closed at used rows.old }
-{
-    rows[at..used].rotate_left(1);
+    rows.iter().position(|row| row.number == number)
 }
 
 // Counts the rows at most `radius` away from the query, and keeps the nearest of them in the list.

@@ -1,10 +1,10 @@
 // The scan as an index.
 ghost use Rattle.std.specs.Prelude.{◌≡◌, ℕ, min, length};
 ghost use Rattle.index.specs.Meaning.{fresh};
-ghost use Rattle.scan.specs.Scans.{scan_meaning, ScanSound, scan_lawful, HoldsNumberAt};
+ghost use Rattle.scan.specs.Scans.{scan_meaning, ScanSound, scan_lawful, PlaceTold};
 
-use crate::rows::{Row, close_up, element_in, find, gather, write};
-use hits::Hit;
+use crate::rows::{Row, find, gather};
+use hits::{Hit, close_up};
 use index::index::Index;
 use index::refusal::{Refusal, room};
 use metric::Metric;
@@ -37,11 +37,11 @@ impl<'a, E: Metric> Scan<'a, E> {
     }
 
     // The place of the row that holds the sample of this number.
-    fn place_of(&self, number: u16) -> Option<usize>
+    fn place_of(&self, number: u16) -> Result<usize, Refusal>
         requires { ScanSound self.now }
-        ensures { HoldsNumberAt self.now number result }
+        ensures { PlaceTold self.now number result }
     {
-        find(&self.rows[0..self.used], number)
+        find(&self.rows[0..self.used], number).ok_or(Refusal::NotStanding(number))
     }
 }
 
@@ -55,32 +55,24 @@ impl<'a, E: Metric> Index for Scan<'a, E> {
     ghost lawful = { scan_lawful };
 
     fn add(&mut self, e: E) -> Result<u16, Refusal> {
-        let used = self.used;
-        room(self.capacity(), used, self.last)?;
+        room(self.capacity(), self.used, self.last)?;
         let number = self.last + 1;
-        write(self.rows, used, Row { number, element: e });
-        self.used = used + 1;
+        self.rows[self.used] = Row { number, element: e };
+        self.used += 1;
         self.last = number;
         Ok(number)
     }
 
     fn drop(&mut self, number: u16) -> Result<(), Refusal> {
-        match self.place_of(number) {
-            Some(at) => {
-                let used = self.used;
-                close_up(self.rows, at, used);
-                self.used = used - 1;
-                Ok(())
-            }
-            None => Err(Refusal::NotStanding(number)),
-        }
+        let at = self.place_of(number)?;
+        close_up(self.rows, at, self.used);
+        self.used -= 1;
+        Ok(())
     }
 
     fn element(&self, number: u16) -> Result<E, Refusal> {
-        match self.place_of(number) {
-            Some(at) => Ok(element_in(self.rows, at)),
-            None => Err(Refusal::NotStanding(number)),
-        }
+        let at = self.place_of(number)?;
+        Ok(self.rows[at].element)
     }
 
     fn tally(&self) -> (usize, usize, u16) {

@@ -19,7 +19,7 @@ returns g c =
           let small : size ≤ 1024 = omega (arith, ap (λ z. z.capacity) x, (g.I.Index.lawful c.args.first c.requires.0).capacity_bound) in
           let same : lent c.args.copy.now c.args.twins.now ≡ lent c.args.list.now c.args.numbers.now = (λ i. lent (sym e i) (sym f i)) in
           let P : Lent → Type 0 = λ z. Ran dist g.D.Checker.passes (road_of g.J.Index.meaning c.in_ok-two.two) c.args.others.now z c.run-2.new.answers (lent c.run-2.new.list c.run-2.new.numbers) (road_of g.J.Index.meaning c.run-2.new.road) in
-          whole dist g.I.Element.Metric.top g.I.Element.Metric.laws g.C.Checker.passes g.C.Checker.symmetric g.D.Checker.passes g.D.Checker.symmetric (start c.args.k size) (road_of g.I.Index.meaning c.in_ok-one.one) (road_of g.J.Index.meaning c.in_ok-two.two) _ _ c.args.calls.now c.args.others.now (lent c.args.list.now c.args.numbers.now) (lent c.run.new.list c.run.new.numbers) (lent c.run-2.new.list c.run-2.new.numbers) c.run.new.answers c.run-2.new.answers
+          whole dist g.I.Element.Metric.GREATEST g.I.Element.Metric.laws g.C.Checker.passes g.C.Checker.symmetric g.D.Checker.passes g.D.Checker.symmetric (start c.args.k size) (road_of g.I.Index.meaning c.in_ok-one.one) (road_of g.J.Index.meaning c.in_ok-two.two) _ _ c.args.calls.now c.args.others.now (lent c.args.list.now c.args.numbers.now) (lent c.run.new.list c.run.new.numbers) (lent c.run-2.new.list c.run-2.new.numbers) c.run.new.answers c.run-2.new.answers
           (reached_new dist c.args.k size small (road_of g.I.Index.meaning c.in_ok-one.one) (g.I.Index.meaning c.args.first) a.4 x)
           (reached_new dist c.args.k size small (road_of g.J.Index.meaning c.in_ok-two.two) (g.J.Index.meaning c.args.second) b.4 y)
           s c.run.ensures.ran (subst P same c.run-2.ensures.ran);

@@ -7,8 +7,8 @@ use Rattle.routing.specs.Sweeps.{Swept}
 use Rattle.routing.proofs.Lowering.{sweep_none, sweep_more}
 use Rattle.routing.proofs.sweep.Goals as goal
 
-pub relax-one-requires : goal.relax-one-requires
-relax-one-requires c =
+pub relax-lowered-requires : goal.relax-lowered-requires
+relax-lowered-requires c =
     let i = c.loop-edge.edge-index in
     let p = All-get_or (Inside (length c.args.costs.now)) c.args.edges.now i (edge 0 0 0) c.loop-edge-test.true c.requires in
     let k = c.loop-edge.auto.costs in
@@ -22,7 +22,7 @@ loop-edge-preserved c =
     let es = c.args.edges.now in
     let i = c.loop-edge.edge-index in
     let e : Edge = get_or es i (edge 0 0 0) in
-    sweep_more es c.args.costs.now c.loop-edge.costs c.relax-one.new.costs i e c.loop-edge.lowered c.relax-one.result c.loop-edge-test.true (get_or_default es i (edge 0 0 0) e c.loop-edge-test.true) c.loop-edge.invariant c.relax-one.ensures
+    sweep_more es c.args.costs.now c.loop-edge.costs c.relax-lowered.new.costs i e c.loop-edge.lowered c.relax-lowered.result c.loop-edge-test.true (get_or_default es i (edge 0 0 0) e c.loop-edge-test.true) c.loop-edge.invariant c.relax-lowered.ensures
 
 pub returns : goal.returns
 returns c =

@@ -21,7 +21,7 @@ loop-i-init g c =
 
 pub returns-in-None : goal.returns-in-None
 returns-in-None g c =
-    step_full g.I.Element.Metric.dist g.I.Element.Metric.top g.I.Element.Metric.laws g.C.Checker.passes g.C.Checker.symmetric c.args.checker _
+    step_full g.I.Element.Metric.dist g.I.Element.Metric.GREATEST g.I.Element.Metric.laws g.C.Checker.passes g.C.Checker.symmetric c.args.checker _
     c.args.lines.now c.index-lines-i.result c.loop-i.i c.loop-i.at c.call_of-call.result _ _ (lent c.loop-i.hits c.loop-i.numbers) _ c.loop-i.out _ c.loop-i-test.true c.index-lines-i.is c.call_of-call.ensures c.in-None.ensures.answers c.loop-i.invariant.3
 
 pub loop-i-preserved : goal.loop-i-preserved
@@ -30,11 +30,11 @@ loop-i-preserved g c =
       c.answer_call.auto.hits ∙ c.loop-i.invariant.0,
       c.answer_call.auto.numbers ∙ c.loop-i.invariant.1,
       x.stays,
-      step_more g.I.Element.Metric.dist g.I.Element.Metric.top g.I.Element.Metric.laws g.C.Checker.passes g.C.Checker.symmetric c.args.checker _
+      step_more g.I.Element.Metric.dist g.I.Element.Metric.GREATEST g.I.Element.Metric.laws g.C.Checker.passes g.C.Checker.symmetric c.args.checker _
           c.args.lines.now c.index-lines-i.result c.loop-i.i c.loop-i.at c.call_of-call.result _ _ (lent c.loop-i.hits c.loop-i.numbers) _ c.loop-i.out _ c.loop-i-test.true c.index-lines-i.is c.call_of-call.ensures c.in-Some.end x.answers c.loop-i.invariant.3,
     )
 
 pub returns : goal.returns
 returns g c =
-    step_done g.I.Element.Metric.dist g.I.Element.Metric.top g.I.Element.Metric.laws g.C.Checker.passes g.C.Checker.symmetric c.args.checker _
+    step_done g.I.Element.Metric.dist g.I.Element.Metric.GREATEST g.I.Element.Metric.laws g.C.Checker.passes g.C.Checker.symmetric c.args.checker _
     c.args.lines.now c.loop-i.i c.loop-i.at _ (lent c.loop-i.hits c.loop-i.numbers) c.loop-i.out c.loop-i-test.false c.loop-i.invariant.3

@@ -36,7 +36,7 @@ file-number-requires g c = (c.requires.index, sym (c.in_ok-room.ensures ∙ ap (
 pub write-requires : goal.write-requires
 write-requires g c =
     let r = c.args.self.now in
-    room_used g.I.Index.sound g.I.Index.meaning r c.requires (g.I.Index.lawful r.index c.requires.index) g.I.Element.Metric.dist g.I.Element.Metric.top g.I.Element.Metric.laws (g.C.Checker.passes c.args.checker.now) c.args.e (c.in_ok-room.ensures ∙ ap (λ z. room_outcome z.0 z.1 z.2) c.tally-capacity.ensures)
+    room_used g.I.Index.sound g.I.Index.meaning r c.requires (g.I.Index.lawful r.index c.requires.index) g.I.Element.Metric.dist g.I.Element.Metric.GREATEST g.I.Element.Metric.laws (g.C.Checker.passes c.args.checker.now) c.args.e (c.in_ok-room.ensures ∙ ap (λ z. room_outcome z.0 z.1 z.2) c.tally-capacity.ensures)
 
 pub returns : goal.returns
 returns g c =
@@ -54,9 +54,9 @@ returns g c =
     let linked = subst P (ap (λ z. z.2) tl) c.link-own.ensures in
     let t : Roadmap g.row.I.Denot = record { index = c.file-number.new.index; k = r.k; links = set_vals c.write.new.links r.links; used = r.used + 1 } in
     let done = grow_done dist p (road_of g.I.Index.meaning r) c.args.e free in
-    let many = held_count g.I.Index.sound g.I.Index.meaning r c.requires law dist g.I.Element.Metric.top g.I.Element.Metric.laws p c.args.e free found near c.link-own.result linked in
+    let many = held_count g.I.Index.sound g.I.Index.meaning r c.requires law dist g.I.Element.Metric.GREATEST g.I.Element.Metric.laws p c.args.e free found near c.link-own.result linked in
     record {
-      stays = add_sound g.I.Index.sound g.I.Index.meaning r c.requires law dist g.I.Element.Metric.top g.I.Element.Metric.laws p c.args.e free found near c.link-own.result linked t c.file-number.ensures.stays c.file-number.ensures.leaves refl c.write.ensures refl;
+      stays = add_sound g.I.Index.sound g.I.Index.meaning r c.requires law dist g.I.Element.Metric.GREATEST g.I.Element.Metric.laws p c.args.e free found near c.link-own.result linked t c.file-number.ensures.stays c.file-number.ensures.leaves refl c.write.ensures refl;
       answer = (λ i. gives (c.file-number.ensures.number i, many i)) ∙ done.0;
-      leaves = add_means g.I.Index.sound g.I.Index.meaning r c.requires law dist g.I.Element.Metric.top g.I.Element.Metric.laws p c.args.e free found near c.link-own.result linked t c.file-number.ensures.stays c.file-number.ensures.leaves refl c.write.ensures refl ∙ done.1;
+      leaves = add_means g.I.Index.sound g.I.Index.meaning r c.requires law dist g.I.Element.Metric.GREATEST g.I.Element.Metric.laws p c.args.e free found near c.link-own.result linked t c.file-number.ensures.stays c.file-number.ensures.leaves refl c.write.ensures refl ∙ done.1;
     }

@@ -4,15 +4,15 @@ use Rattle.scan.specs.Scans.{scan_meaning}
 use Rattle.scan.proofs.States.{stands, drop_means, drop_sound}
 use Rattle.scan.proofs.scan.ScanIndex.drop.Goals as goal
 
-pub returns-in-Some : goal.returns-in-Some
-returns-in-Some g c =
+pub returns : goal.returns
+returns g c =
     let s = c.args.self.now in
     let n = c.args.number in
-    let at = c.in-Some.at in
-    let here = c.in-Some.ensures in
+    let at = c.in_ok-at.at in
+    let here = c.in_ok-at.ensures in
     let e = stands s c.requires n at here in
     record {
-      stays = drop_sound s c.requires n at here c.close_up.new.rows c.close_up.ensures _ refl refl refl;
+      stays = drop_sound s c.requires n at here c.close_up.new.list c.close_up.ensures _ refl refl refl;
       answer = call_standing (scan_meaning s) n (λ _. tt) e.0 e.1;
-      leaves = drop_means s c.requires n at here c.close_up.new.rows c.close_up.ensures ∙ drop_done (scan_meaning s) n e.0 e.1;
+      leaves = drop_means s c.requires n at here c.close_up.new.list c.close_up.ensures ∙ drop_done (scan_meaning s) n e.0 e.1;
     }
