@@ -41,4 +41,4 @@ returns-in_default c = λ ss long f. quiet_flags c.args.branch.now c.args.struck
 pub returns : goal.returns
 returns c = λ ss long f.
     subst (λ o. Flags c.args.branch.now c.loop-child.struck (ss ++ (seen c.args.distance o ∷ []))) (sym c.in-Some.is)
-    (tested_all c.args.branch.now c.args.pivot c.args.distance c.in-Some.radius c.args.struck c.loop-child.struck c.requires.0 (λ j l. c.loop-child.invariant.1 j (omega (arith, c.loop-child-test.false))) ss long f)
+    (tested_all c.args.branch.now c.args.pivot c.args.distance c.in-Some.radius c.args.struck c.loop-child.struck c.requires.pivot (λ j l. c.loop-child.invariant.1 j (omega (arith, c.loop-child-test.false))) ss long f)

@@ -1,8 +1,8 @@
 use Rattle.std.proofs.Common.{length, sym, ap, ◌∙◌, arith}
 use Rattle.gnat_search.specs.Wants.{want}
 use Rattle.gnat_search.proofs.Keeping.{full_reach, open_reach, no_reach}
-use Rattle.gnat_search.proofs.reach.Goals as goal
-use Rattle.gnat_search.proofs.reach.Goals.{else-places-gt0-via-then-places-gt0+else-so_far-places, else-places-gt0-via-else-places-gt0}
+use Rattle.gnat_search.proofs.Aim.reach.Goals as goal
+use Rattle.gnat_search.proofs.Aim.reach.Goals.{else-places-gt0-via-then-places-gt0+else-so_far-places, else-places-gt0-via-else-places-gt0}
 
 pub returns-then-so_far-places : goal.returns-then-so_far-places
 returns-then-so_far-places c = λ old st k.
