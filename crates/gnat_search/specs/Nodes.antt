@@ -3,7 +3,7 @@ use Rattle.std.specs.Prelude.{◌≡◌, ℕ, zero, suc, ◌<◌, ◌≤◌, Boo
 use Rattle.std.specs.List.{slice_get}
 use Rattle.hits.specs.declared.Hit.{Hit}
 use Rattle.hits.specs.Samples.{Sample}
-use Rattle.gnat_theory.specs.Tree.{Tree, Parts, pivots}
+use Rattle.gnat_theory.specs.Tree.{Tree, Parts, Range, pivots}
 use Rattle.gnat_theory.specs.Searching.{State, Sight, start, struck, measure_all, survey, searched}
 use Rattle.gnat_theory.specs.Pending.{turn}
 use Rattle.gnat_theory.specs.Shapes.{pivot_count}
@@ -15,6 +15,10 @@ use Rattle.gnat_rows.specs.Shows.{HoldsSamples, Shows, ShowsParts, held, column}
 use Rattle.gnat_search.specs.declared.Aim.{Aim}
 use Rattle.gnat_search.specs.declared.Found.{Found}
 use Rattle.gnat_search.specs.Wants.{want, Kept, Steps}
+
+-- there is a range of the pivot i to the child j, and this holds of it
+abbrev pub HasRange : BranchRecord → ℕ → ℕ → (Range → Type 0) → Type 0
+HasRange b j i P = (r : Range) × (slice_get (column b j) i ≡ Some r) × P r
 
 -- which children the pivots seen strike
 abbrev pub Flags : BranchRecord → List Bool → List Sight → Type 0

@@ -8,12 +8,13 @@ ghost use Rattle.gnat_theory.specs.Searching.Sight.{seen};
 ghost use Rattle.gnat_rows.specs.Rows.{HasRow};
 ghost use Rattle.gnat_rows.specs.Shows.{sample_in, pivot_in};
 ghost use Rattle.gnat_search.specs.Wants.{want, Room, Counted, Kept, Steps, counted_in, PivotCounted};
-ghost use Rattle.gnat_search.specs.Nodes.{StruckMore, open_rows, LeafShown, BranchShown, Searchable, LeafMeasured, BranchSurveyed, Visited, Searched};
+ghost use Rattle.gnat_search.specs.Nodes.{HasRange, StruckMore, open_rows, LeafShown, BranchShown, Searchable, LeafMeasured, BranchSurveyed, Visited, Searched};
 
 use arrayvec::ArrayVec;
 use gnat_rows::{Branch, Leaf, Node, Row, element_in, marked_in, node_in, number_in};
 use hits::{Hit, place};
 use metric::Metric;
+use std::array;
 // The rows that can be pending at once.
 const PENDING: usize = 1024;
 
@@ -89,18 +90,23 @@ impl Aim {
     }
 }
 
-// Whether a range has nothing within the radius: the pivot whose range it is lies at this distance.
-fn outside(distance: u32, radius: u32, low: u32, high: u32) -> bool
-    ensures { result ≡ outside_of distance radius (record { low = low; high = high }) }
+// Whether the range of a pivot to a child has nothing within the radius: the pivot is at this distance.
+fn outside(branch: &Branch, child: usize, pivot: usize, distance: u32, radius: u32) -> bool
+    requires child { child < branch.now.count }
+    requires pivot { pivot < branch.now.count }
+    requires few { branch.now.count ≤ 8 }
+    ensures { HasRange branch.now child pivot (λ range. result ≡ outside_of distance radius range) }
 {
     let distance = u64::from(distance);
     let radius = u64::from(radius);
-    u64::from(low) > distance + radius || u64::from(high) + radius < distance
+    let low = u64::from(branch.low[child][pivot]);
+    let high = u64::from(branch.high[child][pivot]);
+    low > distance + radius || high + radius < distance
 }
 
 // Strikes the children that the ranges of a pivot show to be out of reach.
 fn strike(
-    mut struck: [bool; 8],
+    struck: [bool; 8],
     branch: &Branch,
     pivot: usize,
     distance: u32,
@@ -113,14 +119,10 @@ fn strike(
     let Some(radius) = reach else {
         return struck;
     };
-    for child in 0..branch.count as usize {
-        let low = branch.low[child][pivot];
-        let high = branch.high[child][pivot];
-        if outside(distance, radius, low, high) {
-            struck[child] = true;
-        }
-    }
-    struck
+    let count = branch.count as usize;
+    array::from_fn(|child| {
+        struck[child] || child < count && outside(branch, child, pivot, distance, radius)
+    })
 }
 
 // Puts the rows of the children that are not struck behind those that are pending, in order.

@@ -1,4 +1,4 @@
-use Rattle.gnat_rows.proofs.Changes.{nth_within}
+use Rattle.std.proofs.lemmas.Option.{slice_get_within}
 use Rattle.gnat_search.proofs.Visiting.{none_pending, root_visited, next_row, next_shown, next_room, next_pause, next_less, search_ends}
 use Rattle.gnat_search.proofs.search.Goals as goal
 
@@ -9,7 +9,7 @@ loop-at-init g c =
 pub node_in-node-requires : goal.node_in-node-requires
 node_in-node-requires g c =
     let at = next_row c.args.rows.now g.E.Metric.dist c.args.q.now c.args.aim c.args.root.now c.args.list.now c.loop-at.list c.loop-at.so_far c.loop-at.pending.items c.pop.new.self.items c.in-Some.at c.in-Some.ensures.items c.loop-at.invariant in
-    nth_within c.args.rows.now c.in-Some.at at.0 at.1
+    slice_get_within c.args.rows.now c.in-Some.at at.0 at.1
 
 pub visit-so_far-requires-in-Some : goal.visit-so_far-requires-in-Some
 visit-so_far-requires-in-Some g c = record {

@@ -1,7 +1,7 @@
 use Rattle.std.proofs.Common.{◌≡◌, ◌≤◌, length, get_or, take, sym, subst, arith, length-take}
 use Rattle.gnat_theory.specs.Searching.{measure, measure_all}
 use Rattle.gnat_rows.specs.Shows.{sample_in, held}
-use Rattle.gnat_rows.proofs.Changes.{nth_within}
+use Rattle.std.proofs.lemmas.Option.{slice_get_within}
 use Rattle.gnat_search.specs.Wants.{want, Kept}
 use Rattle.gnat_search.proofs.Leaves.{holds_at, one_more, all_of}
 use Rattle.gnat_search.proofs.Quest.measure_leaf.Goals as goal
@@ -17,7 +17,7 @@ measure_row-so_far-requires g c =
     let shown = c.requires.shown in
     let at = holds_at rows (held leaf) shown.0 i shown.3 c.loop-at-test.true in
     record {
-      row = nth_within rows (get_or (held leaf) i 0) at.0 at.1;
+      row = slice_get_within rows (get_or (held leaf) i 0) at.0 at.1;
       room = record { shown = c.loop-at.invariant.0.shown; few = c.loop-at.invariant.0.few; fits = omega (arith, c.loop-at.invariant.0.most, c.requires.room.fits, c.loop-at-test.true, length-take leaf.count leaf.rows, shown.2) };
     }
 

@@ -5,7 +5,7 @@ use Rattle.gnat_theory.specs.Searching.{measure_pivot}
 use Rattle.gnat_rows.specs.declared.Branch.{Branch}
 use Rattle.gnat_rows.specs.declared.Row.{Row}
 use Rattle.gnat_rows.specs.Shows.{pivot_in}
-use Rattle.gnat_rows.proofs.Changes.{nth_within}
+use Rattle.std.proofs.lemmas.Option.{slice_get_within}
 use Rattle.gnat_search.specs.Wants.{want, Kept, Counted}
 use Rattle.gnat_search.specs.Nodes.{BranchShown}
 use Rattle.gnat_search.proofs.Rows.{same_row}
@@ -37,7 +37,7 @@ in_range rows b i shown l =
     let is = pivot_is b i l in
     let at = pivot_at rows b shown.0 0 i shown.1 shown.4 (omega (arith, is.0, shown.2)) in
     let same : 0 + i ≡ i = omega arith in
-    subst (λ n. n < length rows) (sym is.1) (nth_within rows (get_or b.pivots i 0) at.0 (ap (λ n. slice_get rows (get_or b.pivots n 0)) (sym same) ∙ at.1))
+    subst (λ n. n < length rows) (sym is.1) (slice_get_within rows (get_or b.pivots i 0) at.0 (ap (λ n. slice_get rows (get_or b.pivots n 0)) (sym same) ∙ at.1))
 
 pub element_in-requires : goal.element_in-requires
 element_in-requires g c = in_range c.args.self.now.rows.now c.args.branch.now c.loop-i.i c.requires.shown c.loop-i-test.true
