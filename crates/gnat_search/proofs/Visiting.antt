@@ -2,6 +2,7 @@
 use Rattle.std.proofs.Common.{◌≡◌, ℕ, zero, suc, ◌+◌, ◌-◌, ◌*◌, ◌<◌, ◌≤◌, Bool, List, [], ◌∷◌, ◌++◌, length, take, Some, None, Option, IsSome, sym, refl, ap, ◌∙◌, subst, arith}
 use Rattle.std.specs.List.{slice_get}
 use Rattle.std.proofs.lemmas.List.{append-nil}
+use Rattle.std.proofs.lemmas.Option.{slice_get_within}
 use Rattle.hits.specs.declared.Hit.{Hit}
 use Rattle.hits.specs.Samples.{Sample}
 use Rattle.hits.specs.Lists.{over}
@@ -16,11 +17,10 @@ use Rattle.gnat_rows.specs.declared.Branch.{Branch}
 use Rattle.gnat_rows.specs.declared.Node.{Node}
 use Rattle.gnat_rows.specs.declared.Node.TheVariants as node
 use Rattle.gnat_rows.specs.declared.Row.{Row}
-use Rattle.gnat_rows.specs.Rows.{HasRow}
 use Rattle.gnat_rows.specs.Shows.{Shows}
 use Rattle.gnat_search.specs.declared.Aim.{Aim}
 use Rattle.gnat_search.specs.declared.Found.{Found}
-use Rattle.gnat_search.specs.Wants.{want, Room, Counted, Kept}
+use Rattle.gnat_search.specs.Wants.{want, Counted, Kept}
 use Rattle.gnat_search.specs.Nodes.{open_rows, LeafShown, BranchShown, LeafMeasured, BranchSurveyed, Waiting, Searchable, Visited}
 use Rattle.gnat_search.proofs.Keeping.{kept_long}
 use Rattle.gnat_search.proofs.Rows.{same_row}
@@ -109,9 +109,6 @@ module _ {E : Type 0} (rows : List (Row E)) (dist : E → E → ℕ) (q : E) (ai
     visit_shown : Searchable rows (1024 - length is) n
     visit_shown = (v.here, v.hs, v.shows, omega (arith, load, v.still.light, waiting_length rows is v.ts v.waits, length_weight v.ts))
 
-    visit_room : Room p 32
-    visit_room = record { shown = v.still.shown; few = v.still.few; fits = omega (arith, load, v.still.ahead) }
-
     -- a turn is made
     module _ (js : List ℕ) (new : List Hit) (r : Found) (c : Counted p r 32) (made : Visited rows dist q aim n list new p r is js) where
       turned : (z : Pause rows dist q aim root old js new r) × (weight z.ts < weight (v.ts ++ (v.here ∷ [])))
@@ -183,14 +180,11 @@ module _ {E : Type 0} (rows : List (Row E)) (dist : E → E → ℕ) (q : E) (ai
       last : Last rows is i x.ts
       last = waiting_last rows is i x.ts (subst (λ z. Waiting rows z x.ts) split x.waits)
 
-      pub next_row : (row : Row E) × (slice_get rows i ≡ Some row)
-      next_row = (last.row, last.at)
+      pub next_within : i < length rows
+      next_within = slice_get_within rows i last.row last.at
 
-      module _ (n : Node) (at : HasRow rows i (λ row. n ≡ row.node)) where
-        next_shows : Shows rows n last.tree last.fs
-        next_shows = subst (λ z. Shows rows z last.tree last.fs) (ap (λ r. r.node) (same_row rows i last.row at.0 last.at at.1) ∙ sym at.2) last.shows
-
-        abbrev next : Visit rows dist q aim root old is n list p
+      module _ (row : Row E) (at : slice_get rows i ≡ Some row) where
+        abbrev next : Visit rows dist q aim root old is row.node list p
         next = record {
           tree = x.tree;
           fs = x.fs;
@@ -199,21 +193,18 @@ module _ {E : Type 0} (rows : List (Row E)) (dist : E → E → ℕ) (q : E) (ai
           waits = last.waits;
           here = last.tree;
           hs = last.fs;
-          shows = next_shows;
+          shows = subst (λ r. Shows rows r.node last.tree last.fs) (same_row rows i last.row row last.at at) last.shows;
           still = subst (λ z. Still dist q (want aim (length old)) old x.tree z list p) last.split x.still;
         }
 
-        pub next_shown : Searchable rows (1024 - length is) n
-        next_shown = visit_shown is n list p next
+        pub next_shown : Searchable rows (1024 - length is) row.node
+        next_shown = visit_shown is row.node list p next
 
-        pub next_room : Room p 32
-        next_room = visit_room is n list p next
-
-        module _ (js : List ℕ) (new : List Hit) (r : Found) (c : Counted p r 32) (made : Visited rows dist q aim n list new p r is js) where
+        module _ (js : List ℕ) (new : List Hit) (r : Found) (c : Counted p r 32) (made : Visited rows dist q aim row.node list new p r is js) where
           pub next_pause : Pause rows dist q aim root old js new r
-          next_pause = (turned is n list p next js new r c made).0
+          next_pause = (turned is row.node list p next js new r c made).0
 
           pub next_less : pending_below rows js < pending_below rows all
           next_less =
-              let z = turned is n list p next js new r c made in
+              let z = turned is row.node list p next js new r c made in
               omega (arith, z.1, pending_is rows js z.0.ts z.0.still.light z.0.waits, pending_is rows all x.ts x.still.light x.waits, ap weight last.split)

@@ -5,13 +5,12 @@ ghost use Rattle.std.specs.Prelude.{◌≡◌, ◌+◌, ◌-◌, ◌<◌, ◌≤
 ghost use Rattle.arrayvec.specs.ArrayVec.{array_vec_len};
 ghost use Rattle.gnat_theory.specs.Searching.{State, measure, outside as outside_of};
 ghost use Rattle.gnat_theory.specs.Searching.Sight.{seen};
-ghost use Rattle.gnat_rows.specs.Rows.{HasRow};
 ghost use Rattle.gnat_rows.specs.Shows.{sample_in, pivot_in};
 ghost use Rattle.gnat_search.specs.Wants.{want, Room, Counted, Kept, Steps, counted_in, PivotCounted};
 ghost use Rattle.gnat_search.specs.Nodes.{HasRange, StruckMore, open_rows, LeafShown, BranchShown, Searchable, LeafMeasured, BranchSurveyed, Visited, Searched};
 
 use arrayvec::ArrayVec;
-use gnat_rows::{Branch, Leaf, Node, Row, element_in, marked_in, node_in, number_in};
+use gnat_rows::{Branch, Leaf, Node, Row};
 use hits::{Hit, place};
 use metric::Metric;
 use std::array;
@@ -149,34 +148,32 @@ struct Quest<'a, E> {
 
 impl<'a, E: Metric> Quest<'a, E> {
     // Measures the sample in a row.
-    fn measure_row(&self, at: usize, list: &mut [Hit], so_far: Found) -> Found
-        requires row { at < length self.now.rows.now }
-        requires room { Room so_far 1 }
+    fn measure_row(&self, row: &Row<E>, list: &mut [Hit], so_far: Found) -> Found
+        requires { Room so_far 1 }
         ensures counts { Counted so_far result 1 }
-        ensures keeps { HasRow self.now.rows.now at (λ row. Steps (measure E.dist self.now.q.now (want self.now.aim (length list.old)) (sample_in row)) list.old list.new so_far result) }
+        ensures keeps { Steps (measure E.dist self.now.q.now (want self.now.aim (length list.old)) (sample_in row.now)) list.old list.new so_far result }
     {
         let hit = Hit {
-            number: number_in(self.rows, at),
-            distance: self.q.distance(&element_in(self.rows, at)),
+            number: row.number,
+            distance: self.q.distance(&row.element),
         };
         self.aim.keep(list, so_far, hit)
     }
 
     // Counts the pivot in a row, which is at this distance. Marked, it is no hit.
-    fn count_pivot(&self, at: usize, distance: u32, list: &mut [Hit], so_far: Found) -> Found
-        requires row { at < length self.now.rows.now }
-        requires room { Room so_far 1 }
+    fn count_pivot(&self, row: &Row<E>, distance: u32, list: &mut [Hit], so_far: Found) -> Found
+        requires { Room so_far 1 }
         ensures counts { Counted so_far result 1 }
-        ensures keeps { HasRow self.now.rows.now at (λ row. PivotCounted E.dist distance (pivot_in row) self.now.aim list.old list.new so_far result) }
+        ensures keeps { PivotCounted E.dist distance (pivot_in row.now) self.now.aim list.old list.new so_far result }
     {
-        if marked_in(self.rows, at) {
+        if row.marked {
             return Found {
                 measured: so_far.measured + 1,
                 ..so_far
             };
         }
         let hit = Hit {
-            number: number_in(self.rows, at),
+            number: row.number,
             distance,
         };
         self.aim.keep(list, so_far, hit)
@@ -190,7 +187,7 @@ impl<'a, E: Metric> Quest<'a, E> {
         ensures keeps { LeafMeasured self.now.rows.now E.dist self.now.q.now self.now.aim leaf.now list.old list.new so_far result }
     {
         for at in &leaf.rows[..leaf.count as usize] {
-            so_far = self.measure_row(*at as usize, list, so_far);
+            so_far = self.measure_row(&self.rows[*at as usize], list, so_far);
         }
         so_far
     }
@@ -206,9 +203,9 @@ impl<'a, E: Metric> Quest<'a, E> {
         let mut struck = [false; 8];
         for (i, at) in branch.pivots[..branch.count as usize].iter().enumerate() {
             if !struck[i] {
-                let at = *at as usize;
-                let distance = self.q.distance(&element_in(self.rows, at));
-                let counted = self.count_pivot(at, distance, list, so_far);
+                let row = &self.rows[*at as usize];
+                let distance = self.q.distance(&row.element);
+                let counted = self.count_pivot(row, distance, list, so_far);
                 let within = self.aim.reach(list, counted);
                 struck = strike(struck, branch, i, distance, within);
                 so_far = counted;
@@ -256,8 +253,7 @@ pub fn search<E: Metric>(rows: &[Row<E>], root: &Node, q: &E, aim: Aim, list: &m
     };
     let mut so_far = quest.visit(root, list, none, &mut pending);
     while let Some(at) = pending.pop() {
-        let node = node_in(rows, at as usize);
-        so_far = quest.visit(&node, list, so_far, &mut pending);
+        so_far = quest.visit(&rows[at as usize].node, list, so_far, &mut pending);
     }
     so_far
 }

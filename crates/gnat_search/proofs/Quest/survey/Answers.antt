@@ -5,10 +5,9 @@ use Rattle.gnat_theory.specs.Searching.{measure_pivot}
 use Rattle.gnat_rows.specs.declared.Branch.{Branch}
 use Rattle.gnat_rows.specs.declared.Row.{Row}
 use Rattle.gnat_rows.specs.Shows.{pivot_in}
-use Rattle.std.proofs.lemmas.Option.{slice_get_within}
+use Rattle.std.proofs.lemmas.Option.{slice_get_within, slice_get-get_or}
 use Rattle.gnat_search.specs.Wants.{want, Kept, Counted}
 use Rattle.gnat_search.specs.Nodes.{BranchShown}
-use Rattle.gnat_search.proofs.Rows.{same_row}
 use Rattle.gnat_search.proofs.Surveys.{none_surveyed, struck_surveyed, seen_surveyed, surveyed_as, all_surveyed, pivot_at}
 use Rattle.gnat_search.proofs.Quest.survey.Goals as goal
 use Rattle.gnat_search.proofs.Quest.survey.Goals.{then-not-struck-i, else-not-struck-i}
@@ -39,14 +38,11 @@ in_range rows b i shown l =
     let same : 0 + i ≡ i = omega arith in
     subst (λ n. n < length rows) (sym is.1) (slice_get_within rows (get_or b.pivots i 0) at.0 (ap (λ n. slice_get rows (get_or b.pivots n 0)) (sym same) ∙ at.1))
 
-pub element_in-requires : goal.element_in-requires
-element_in-requires g c = in_range c.args.self.now.rows.now c.args.branch.now c.loop-i.i c.requires.shown c.loop-i-test.true
+pub offset_bounds-self-at : goal.offset_bounds-self-at
+offset_bounds-self-at g c = let h = in_range c.args.self.now.rows.now c.args.branch.now c.loop-i.i c.requires.shown c.loop-i-test.true in search rules
 
-pub count_pivot-counted-requires : goal.count_pivot-counted-requires
-count_pivot-counted-requires g c = record {
-  row = in_range c.args.self.now.rows.now c.args.branch.now c.loop-i.i c.requires.shown c.loop-i-test.true;
-  room = record { shown = c.loop-i.invariant.1.shown; few = c.loop-i.invariant.1.few; fits = omega (arith, c.loop-i.invariant.1.most, c.requires.room.fits, (pivot_is c.args.branch.now c.loop-i.i c.loop-i-test.true).0, c.requires.shown.3) };
-}
+pub bounds-self-at : goal.bounds-self-at
+bounds-self-at g c = in_range c.args.self.now.rows.now c.args.branch.now c.loop-i.i c.requires.shown c.loop-i-test.true
 
 pub loop-i-preserved : goal.loop-i-preserved
 loop-i-preserved g c =
@@ -61,20 +57,18 @@ loop-i-preserved g c =
     elim c.if-not-struck-i.branch [
       | then-not-struck-i s ↦
           let counted = s.count_pivot-counted.ensures in
-          let found = counted.keeps in
-          let row = found.0 in
-          let read = s.element_in.ensures in
-          let same : read.0 ≡ row = same_row rows (get_or (take b.count b.pivots) i 0) read.0 row read.1 found.1 in
-          let at : slice_get rows (get_or b.pivots i 0) ≡ Some row = ap (slice_get rows) (sym is.1) ∙ found.1 in
-          let far : s.distance-distance.result ≡ dist q row.element = s.distance-distance.ensures ∙ ap (dist q) (read.2 ∙ ap (λ r. r.element) same) in
+          let at = get_or (take b.count b.pivots) i 0 in
+          let row = get_or rows at s.index-self-at.result in
+          let there : slice_get rows (get_or b.pivots i 0) ≡ Some row = ap (slice_get rows) (sym is.1) ∙ slice_get-get_or rows at s.index-self-at.result (in_range rows b i c.requires.shown c.loop-i-test.true) in
+          let far : s.distance-distance.result ≡ dist q row.element = s.distance-distance.ensures in
           let long : length s.count_pivot-counted.new.list ≡ length c.args.list.now = s.count_pivot-counted.auto.list ∙ c.loop-i.auto.list in (
             ap length s.struck-is ∙ (let ok = s.strike-struck.type_inv in search rules),
             subst (λ z. Counted c.args.so_far z (i + 1)) (sym s.so_far-is) (record { shown = counted.counts.shown; few = counted.counts.few; most = omega (arith, counted.counts.most, c.loop-i.invariant.1.most) }),
             (λ ps fs n t old st k.
                 surveyed_as rows dist q w b ps st old (i + 1) s.strike-struck.result c.if-not-struck-i.struck s.count_pivot-counted.new.list c.if-not-struck-i.list s.count_pivot-counted.result c.if-not-struck-i.so_far s.struck-is s.list-is s.so_far-is
                 (seen_surveyed rows dist q w b ps st old i c.loop-i.struck c.loop-i.list c.loop-i.so_far is.0 row s.distance-distance.result s.reach-within.result s.strike-struck.result s.count_pivot-counted.new.list s.count_pivot-counted.result
-                s.if-not-struck-i.true at far
-                (λ st k. subst (λ n. Kept old s.count_pivot-counted.new.list s.count_pivot-counted.result (measure_pivot dist q (want aim n) (pivot_in row) st)) c.loop-i.auto.list (found.2 q far old st k))
+                s.if-not-struck-i.true there far
+                (λ st k. subst (λ n. Kept old s.count_pivot-counted.new.list s.count_pivot-counted.result (measure_pivot dist q (want aim n) (pivot_in row) st)) c.loop-i.auto.list (counted.keeps q far old st k))
                 (λ st k. s.reach-within.ensures old st k ∙ ap (λ n. (want aim n).reach st.kept) long)
                 s.strike-struck.ensures
                 (c.loop-i.invariant.2 ps fs n t old st k))),
@@ -88,14 +82,10 @@ loop-i-preserved g c =
       )
     ]
 
-pub returns : goal.returns
-returns g c =
+pub returns-clause-keeps : goal.returns-clause-keeps
+returns-clause-keeps g c = λ ps fs n s old st k.
     let b = c.args.branch.now in
     let long : length b.pivots ≡ 8 = search rules in
     let all : length (take b.count b.pivots) ≡ b.count = length-take b.count b.pivots ∙ omega (arith, long, c.requires.shown.3) in
-    record {
-      counts = record { shown = c.loop-i.invariant.1.shown; few = c.loop-i.invariant.1.few; most = omega (arith, c.loop-i.invariant.1.most, c.loop-i.auto.i-end, all, c.requires.shown.3) };
-      keeps = λ ps fs n s old st k.
-          all_surveyed c.args.self.now.rows.now g.E.Metric.dist c.args.self.now.q.now (want c.args.self.now.aim (length c.args.list.now)) b ps st old c.loop-i.i c.loop-i.struck c.loop-i.list c.loop-i.so_far (omega (arith, all, c.loop-i-test.false))
-          (c.loop-i.invariant.2 ps fs n s old st k);
-    }
+    all_surveyed c.args.self.now.rows.now g.E.Metric.dist c.args.self.now.q.now (want c.args.self.now.aim (length c.args.list.now)) b ps st old c.loop-i.i c.loop-i.struck c.loop-i.list c.loop-i.so_far (omega (arith, all, c.loop-i-test.false))
+    (c.loop-i.invariant.2 ps fs n s old st k)
