@@ -1,5 +1,5 @@
 -- The rows of open children, one by one. Assumes nothing.
-use Rattle.std.proofs.Common.{◌≡◌, ℕ, suc, ◌+◌, ◌-◌, ◌<◌, ◌≤◌, Bool, true, false, cond, List, [], ◌∷◌, ◌++◌, length, get_or, take, set, sym, ap, ◌∙◌, arith}
+use Rattle.std.proofs.Common.{◌≡◌, ℕ, suc, ◌+◌, ◌-◌, ◌<◌, Bool, true, false, cond, List, [], ◌∷◌, ◌++◌, get_or, sym, ap, ◌∙◌, arith}
 use Rattle.std.proofs.lemmas.List.{append_assoc}
 use Rattle.gnat_search.specs.Nodes.{open_rows}
 
@@ -23,6 +23,3 @@ module _ (rows : List ℕ) (flags : List Bool) (i count : ℕ) (l : i < count) w
       ap (λ z. (pending ++ (z ∷ [])) ++ open_rows rows flags (i + 1) (count - (i + 1))) is
       ∙ (append_assoc pending (get_or rows i 0 ∷ []) (open_rows rows flags (i + 1) (count - (i + 1)))
       ∙ ap (λ z. pending ++ z) (open_more e))
-
-pub none_left : (rows : List ℕ) (flags : List Bool) (i count : ℕ) → count ≤ i → open_rows rows flags i (count - i) ≡ []
-none_left rows flags i count l = let e : count - i ≡ 0 = omega arith in ap (open_rows rows flags i) e

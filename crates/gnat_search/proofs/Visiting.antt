@@ -4,7 +4,6 @@ use Rattle.std.specs.List.{slice_get}
 use Rattle.std.proofs.lemmas.List.{append-nil}
 use Rattle.std.proofs.lemmas.Option.{slice_get_within}
 use Rattle.hits.specs.declared.Hit.{Hit}
-use Rattle.hits.specs.Samples.{Sample}
 use Rattle.hits.specs.Lists.{over}
 use Rattle.gnat_theory.specs.Tree.{Tree, Parts, pivots}
 use Rattle.gnat_theory.specs.Tree.Parts.{none, part}

@@ -77,12 +77,8 @@ impl Aim {
     {
         match self {
             Aim::Nearest => {
-                let places = list.len();
-                if places > 0 && so_far.held == places {
-                    Some(list[places - 1].distance)
-                } else {
-                    None
-                }
+                let farthest = list.last()?;
+                (so_far.held == list.len()).then_some(farthest.distance)
             }
             Aim::Within(radius) => Some(radius),
         }

@@ -1,4 +1,4 @@
-use Rattle.std.proofs.Common.{◌-◌, arith}
+use Rattle.std.proofs.Common.{◌-◌}
 use Rattle.arrayvec.specs.ArrayVec.{array_vec_len}
 use Rattle.gnat_search.proofs.Visiting.{leaf_shown, leaf_visited, branch_shown, branch_fits, branch_visited}
 use Rattle.gnat_search.proofs.Quest.visit.Goals as goal
