@@ -1,8 +1,8 @@
 -- The search, turn by turn. Assumes nothing.
-use Rattle.std.proofs.Common.{◌≡◌, ℕ, zero, suc, ◌+◌, ◌-◌, ◌*◌, ◌<◌, ◌≤◌, Bool, List, [], ◌∷◌, ◌++◌, length, take, Some, None, Option, IsSome, sym, refl, ap, ◌∙◌, subst, arith}
+use Rattle.std.proofs.Common.{◌≡◌, ℕ, zero, suc, ◌+◌, ◌-◌, ◌*◌, ◌<◌, ◌≤◌, Bool, List, [], ◌∷◌, ◌++◌, length, get_or, take, Some, None, Option, IsSome, sym, refl, ap, ◌∙◌, subst, arith}
 use Rattle.std.specs.List.{slice_get}
 use Rattle.std.proofs.lemmas.List.{append-nil}
-use Rattle.std.proofs.lemmas.Option.{slice_get_within}
+use Rattle.std.proofs.lemmas.Option.{slice_get_within, slice_get-get_or}
 use Rattle.hits.specs.declared.Hit.{Hit}
 use Rattle.hits.specs.Lists.{over}
 use Rattle.gnat_theory.specs.Tree.{Tree, Parts, pivots}
@@ -182,7 +182,14 @@ module _ {E : Type 0} (rows : List (Row E)) (dist : E → E → ℕ) (q : E) (ai
       pub next_within : i < length rows
       next_within = slice_get_within rows i last.row last.at
 
-      module _ (row : Row E) (at : slice_get rows i ≡ Some row) where
+      -- the row, which is read with this default
+      module _ (d : Row E) where
+        abbrev row : Row E
+        row = get_or rows i d
+
+        at : slice_get rows i ≡ Some row
+        at = slice_get-get_or rows i d next_within
+
         abbrev next : Visit rows dist q aim root old is row.node list p
         next = record {
           tree = x.tree;

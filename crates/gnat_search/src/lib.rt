@@ -134,7 +134,9 @@ fn push_open(branch: &Branch, struck: &[bool; 8], pending: &mut ArrayVec<u16, PE
     }
 }
 
-// A search: the rows that show the tree, the element that hits are near to, and what is wanted.
+// A search: the rows that show the tree, the element that hits are near to, and what is wanted. The list
+// and its counts are passed beside it: in a struct of both, each contract would also have to promise that
+// the list in it is still the one that was lent.
 #[derive(Drop)]
 struct Quest<'a, E> {
     rows: &'a [Row<E>],
@@ -198,6 +200,7 @@ impl<'a, E: Metric> Quest<'a, E> {
     {
         let mut struck = [false; 8];
         for (i, at) in branch.pivots[..branch.count as usize].iter().enumerate() {
+            // Read at i, since each pivot may strike children after it.
             if !struck[i] {
                 let row = &self.rows[*at as usize];
                 let distance = self.q.distance(&row.element);
@@ -242,12 +245,12 @@ pub fn search<E: Metric>(rows: &[Row<E>], root: &Node, q: &E, aim: Aim, list: &m
 {
     let quest = Quest { rows, q, aim };
     let mut pending = ArrayVec::new();
-    let none = Found {
+    let nothing = Found {
         found: 0,
         held: 0,
         measured: 0,
     };
-    let mut so_far = quest.visit(root, list, none, &mut pending);
+    let mut so_far = quest.visit(root, list, nothing, &mut pending);
     while let Some(at) = pending.pop() {
         so_far = quest.visit(&rows[at as usize].node, list, so_far, &mut pending);
     }

@@ -1,5 +1,4 @@
-use Rattle.std.proofs.Common.{get_or, arith}
-use Rattle.std.proofs.lemmas.Option.{slice_get-get_or}
+use Rattle.std.proofs.Common.{arith}
 use Rattle.gnat_search.proofs.Visiting.{none_pending, root_visited, next_within, next_shown, next_pause, next_less, search_ends}
 use Rattle.gnat_search.proofs.search.Goals as goal
 
@@ -14,16 +13,16 @@ pub bounds-rows-at : goal.bounds-rows-at
 bounds-rows-at g c = next_within c.args.rows.now g.E.Metric.dist c.args.q.now c.args.aim c.args.root.now c.args.list.now c.loop-at.list c.loop-at.so_far c.loop-at.pending.items c.pop.new.self.items c.in-Some.at c.in-Some.ensures.items c.loop-at.invariant
 
 pub visit-so_far-requires-in-Some-clause-shown : goal.visit-so_far-requires-in-Some-clause-shown
-visit-so_far-requires-in-Some-clause-shown g c = next_shown c.args.rows.now g.E.Metric.dist c.args.q.now c.args.aim c.args.root.now c.args.list.now c.loop-at.list c.loop-at.so_far c.loop-at.pending.items c.pop.new.self.items c.in-Some.at c.in-Some.ensures.items c.loop-at.invariant (get_or c.args.rows.now c.in-Some.at c.index-rows-at.result) (slice_get-get_or c.args.rows.now c.in-Some.at c.index-rows-at.result (next_within c.args.rows.now g.E.Metric.dist c.args.q.now c.args.aim c.args.root.now c.args.list.now c.loop-at.list c.loop-at.so_far c.loop-at.pending.items c.pop.new.self.items c.in-Some.at c.in-Some.ensures.items c.loop-at.invariant))
+visit-so_far-requires-in-Some-clause-shown g c = next_shown c.args.rows.now g.E.Metric.dist c.args.q.now c.args.aim c.args.root.now c.args.list.now c.loop-at.list c.loop-at.so_far c.loop-at.pending.items c.pop.new.self.items c.in-Some.at c.in-Some.ensures.items c.loop-at.invariant c.index-rows-at.result
 
 pub loop-at-smaller : goal.loop-at-smaller
 loop-at-smaller g c =
-    next_less c.args.rows.now g.E.Metric.dist c.args.q.now c.args.aim c.args.root.now c.args.list.now c.loop-at.list c.loop-at.so_far c.loop-at.pending.items c.pop.new.self.items c.in-Some.at c.in-Some.ensures.items c.loop-at.invariant (get_or c.args.rows.now c.in-Some.at c.index-rows-at.result) (slice_get-get_or c.args.rows.now c.in-Some.at c.index-rows-at.result (next_within c.args.rows.now g.E.Metric.dist c.args.q.now c.args.aim c.args.root.now c.args.list.now c.loop-at.list c.loop-at.so_far c.loop-at.pending.items c.pop.new.self.items c.in-Some.at c.in-Some.ensures.items c.loop-at.invariant)) c.visit-so_far-in-Some.new.pending.items c.visit-so_far-in-Some.new.list c.visit-so_far-in-Some.result
+    next_less c.args.rows.now g.E.Metric.dist c.args.q.now c.args.aim c.args.root.now c.args.list.now c.loop-at.list c.loop-at.so_far c.loop-at.pending.items c.pop.new.self.items c.in-Some.at c.in-Some.ensures.items c.loop-at.invariant c.index-rows-at.result c.visit-so_far-in-Some.new.pending.items c.visit-so_far-in-Some.new.list c.visit-so_far-in-Some.result
     c.visit-so_far-in-Some.ensures.counts c.visit-so_far-in-Some.ensures.keeps
 
 pub loop-at-preserved : goal.loop-at-preserved
 loop-at-preserved g c =
-    next_pause c.args.rows.now g.E.Metric.dist c.args.q.now c.args.aim c.args.root.now c.args.list.now c.loop-at.list c.loop-at.so_far c.loop-at.pending.items c.pop.new.self.items c.in-Some.at c.in-Some.ensures.items c.loop-at.invariant (get_or c.args.rows.now c.in-Some.at c.index-rows-at.result) (slice_get-get_or c.args.rows.now c.in-Some.at c.index-rows-at.result (next_within c.args.rows.now g.E.Metric.dist c.args.q.now c.args.aim c.args.root.now c.args.list.now c.loop-at.list c.loop-at.so_far c.loop-at.pending.items c.pop.new.self.items c.in-Some.at c.in-Some.ensures.items c.loop-at.invariant)) c.visit-so_far-in-Some.new.pending.items c.visit-so_far-in-Some.new.list c.visit-so_far-in-Some.result
+    next_pause c.args.rows.now g.E.Metric.dist c.args.q.now c.args.aim c.args.root.now c.args.list.now c.loop-at.list c.loop-at.so_far c.loop-at.pending.items c.pop.new.self.items c.in-Some.at c.in-Some.ensures.items c.loop-at.invariant c.index-rows-at.result c.visit-so_far-in-Some.new.pending.items c.visit-so_far-in-Some.new.list c.visit-so_far-in-Some.result
     c.visit-so_far-in-Some.ensures.counts c.visit-so_far-in-Some.ensures.keeps
 
 pub returns : goal.returns
