@@ -1,14 +1,16 @@
 -- The caller's list, hit by hit. Assumes nothing.
-use Rattle.std.proofs.Common.{◌≡◌, ℕ, zero, suc, ◌+◌, ◌-◌, ◌<◌, ◌≤◌, min, true, false, cond, leb, List, length, get_or, take, drop, Some, None, sym, refl, ap, ◌∙◌, subst, arith, length-append, length-drop, length-take}
+use Rattle.std.proofs.Common.{◌≡◌, ℕ, zero, suc, ◌+◌, ◌-◌, ◌<◌, ◌≤◌, min, Bool, true, false, cond, leb, eqb, List, length, get_or, take, drop, Some, sym, refl, ap, ◌∙◌, subst, arith, length-append, length-drop, length-take}
 use Rattle.std.proofs.lemmas.List.{take-take, get_or_append_left, get_or-take}
-use Rattle.std.proofs.lemmas.Bool.{le-leb, lt-leb}
+use Rattle.std.proofs.lemmas.Bool.{le-leb, eqb-true, eq-eqb}
+use Rattle.std.proofs.lemmas.Option.{slice_get_within, get_or_from_slice_get}
+use Rattle.std.specs.Bool.{then_some}
+use Rattle.std.specs.List.{slice_get}
 use Rattle.hits.specs.declared.Hit.{Hit}
 use Rattle.hits.specs.Order.{Sorted, put}
 use Rattle.hits.specs.Lists.{over}
 use Rattle.hits.proofs.Putting.{length_put}
 use Rattle.hits.proofs.Keeping.{keep_front, keep_put, keep_more}
-use Rattle.gnat_theory.specs.Searching.{Want, State, kth, nearest_hits, hits_within, measure, measure_pivot}
-use Rattle.gnat_theory.specs.Tree.{Pivot, sample_of}
+use Rattle.gnat_theory.specs.Searching.{State, kth, nearest_hits, hits_within}
 use Rattle.gnat_theory.proofs.Ordering.{put_sorted}
 use Rattle.gnat_theory.proofs.Steps.{kth_there, kth_none, take_sorted, nearest_sorted}
 use Rattle.gnat_search.specs.declared.Found.{Found}
@@ -51,15 +53,6 @@ module _ (old list : List Hit) (p : Found) (st : State) (k : Kept old list p st)
           sorted = put_sorted h st.kept k.sorted;
         })
 
-  -- one more was measured, and is no hit that is wanted
-  pub none_kept : Kept old list (record { found = p.found; held = p.held; measured = p.measured + 1 }) (record { kept = st.kept; measured = suc st.measured })
-  none_kept = record { finds = k.finds; holds = k.holds; measures = omega (arith, k.measures); writes = k.writes; sorted = k.sorted }
-
-  pub far_kept : (h : Hit) (r : ℕ) → r < h.distance → Kept old list (record { found = p.found; held = p.held; measured = p.measured + 1 }) (counted_in (hits_within r) h st)
-  far_kept h r l =
-      let whole : cond (leb h.distance r) (put h st.kept) st.kept ≡ st.kept = ap (λ t. cond t (put h st.kept) st.kept) (lt-leb h.distance r l) in
-      subst (λ z. Kept old list (record { found = p.found; held = p.held; measured = p.measured + 1 }) (record { kept = z; measured = suc st.measured })) (sym whole) none_kept
-
   -- the farthest hit of a full list is the k-th
   pub full_reach : (d : Hit) → 0 < length list → p.held ≡ length list → Some (get_or list (length list - 1) d).distance ≡ kth (length list) st.kept
   full_reach d some full = go (length list) refl
@@ -74,20 +67,15 @@ module _ (old list : List Hit) (p : Found) (st : State) (k : Kept old list p st)
           ap (λ z. get_or z m d) k.writes ∙ (get_or_append_left (take (length old) st.kept) (drop (length (take (length old) st.kept)) old) d m front ∙ get_or-take (length old) st.kept m d (omega (arith, kept_long))) in
           ap (λ n. Some (get_or list n d).distance) back ∙ (ap (λ z. Some z.distance) same ∙ sym (kth_there m st.kept d there))
 
-  -- with fewer hits there is no reach
-  pub open_reach : (length list ≤ 0 → ⊥) → (p.held ≡ length list → ⊥) → None ≡ kth (length list) st.kept
-  open_reach some fewer = sym (kth_none (length list) st.kept (omega (arith, kept_long, k.holds)))
+  -- how far off a sample could still count, by the list's last hit
+  pub last_reach : (d : Hit) → slice_get list (length list - 1) ≡ Some d → then_some (eqb p.held (length list)) d.distance ≡ kth (length list) st.kept
+  last_reach d e = go (eqb p.held (length list)) refl
+    where
+      some : length list - 1 < length list
+      some = slice_get_within list (length list - 1) d e
 
-  pub no_reach : length list ≡ 0 → None ≡ kth (length list) st.kept
-  no_reach e = ap (λ n. kth n st.kept) (sym e)
-
-pub same_hit : (n m d e : ℕ) → n ≡ m → d ≡ e → ◌≡◌ {A = Hit} (record { number = n; distance = d }) (record { number = m; distance = e })
-same_hit n m d e p r = λ i. record { number = p i; distance = r i }
-
-module _ {E : Type 0} (dist : E → E → ℕ) (q : E) (w : Want) (old list : List Hit) (r : Found) (p : Pivot E) (st : State) where
-  -- a marked pivot is measured only
-  pub marked_counted : p.marked ≡ true → Kept old list r (record { kept = st.kept; measured = suc st.measured }) → Kept old list r (measure_pivot dist q w p st)
-  marked_counted e k = subst (λ t. Kept old list r (cond t (record { kept = st.kept; measured = suc st.measured }) (measure dist q w (sample_of p) st))) (sym e) k
-
-  pub standing_counted : p.marked ≡ false → Kept old list r (measure dist q w (sample_of p) st) → Kept old list r (measure_pivot dist q w p st)
-  standing_counted e k = subst (λ t. Kept old list r (cond t (record { kept = st.kept; measured = suc st.measured }) (measure dist q w (sample_of p) st))) (sym e) k
+      go : (b : Bool) → eqb p.held (length list) ≡ b → then_some b d.distance ≡ kth (length list) st.kept
+      go true f = ap (λ z. Some z.distance) (sym (get_or_from_slice_get list (length list - 1) d d e)) ∙ full_reach d (omega (arith, some)) (eqb-true p.held (length list) f)
+      go false f =
+          let fewer : p.held ≡ length list → ⊥ = λ z. (let x : true ≡ false = sym (eq-eqb p.held (length list) z) ∙ f in absurd cc) in
+          sym (kth_none (length list) st.kept (omega (arith, some, fewer, kept_long, k.holds)))

@@ -1,13 +1,12 @@
 -- The samples of a leaf, one by one. Assumes nothing.
-use Rattle.std.proofs.Common.{◌≡◌, ℕ, zero, suc, ◌+◌, ◌<◌, ◌≤◌, List, [], ◌∷◌, ◌++◌, length, get_or, take, Some, sym, refl, ap, ◌∙◌, arith, length-take}
+use Rattle.std.proofs.Common.{◌≡◌, ℕ, zero, suc, ◌+◌, ◌<◌, ◌≤◌, List, [], ◌∷◌, ◌++◌, length, get_or, take, Some, sym, refl, ap, ◌∙◌, arith}
 use Rattle.std.specs.List.{slice_get}
-use Rattle.std.proofs.lemmas.List.{take_more, take_all, get_or-take}
+use Rattle.std.proofs.lemmas.List.{take_more, take_all}
 use Rattle.hits.specs.Samples.{Sample}
 use Rattle.gnat_theory.specs.Searching.{Want, State, measure, measure_all}
 use Rattle.gnat_theory.proofs.Steps.{measure_push}
-use Rattle.gnat_rows.specs.declared.Leaf.{Leaf}
 use Rattle.gnat_rows.specs.declared.Row.{Row}
-use Rattle.gnat_rows.specs.Shows.{HoldsSamples, sample_in, held}
+use Rattle.gnat_rows.specs.Shows.{HoldsSamples, sample_in}
 use Rattle.gnat_search.proofs.Rows.{same_row}
 
 module _ {E : Type 0} (rows : List (Row E)) where
@@ -19,32 +18,22 @@ module _ {E : Type 0} (rows : List (Row E)) where
   holds_at (j ∷ is) (x ∷ xs) zero h l = (h.0, h.1, sym h.2)
   holds_at (j ∷ is) (x ∷ xs) (suc i) h l = holds_at is xs i h.3 (omega arith)
 
-  pub holds_length : (is : List ℕ) (xs : List (Sample E)) → HoldsSamples rows is xs → length xs ≡ length is
+  holds_length : (is : List ℕ) (xs : List (Sample E)) → HoldsSamples rows is xs → length xs ≡ length is
   holds_length [] [] h = refl
   holds_length [] (x ∷ xs) h = absurd h
   holds_length (j ∷ is) [] h = absurd h
   holds_length (j ∷ is) (x ∷ xs) h = ap suc (holds_length is xs h.3)
 
-  module _ (l : Leaf) (long : length l.rows ≡ 32) (few : l.count ≤ 32) where
-    pub held_length : length (held l) ≡ l.count
-    held_length = length-take l.count l.rows ∙ omega arith
+  module _ (dist : E → E → ℕ) (q : E) (w : Want) (is : List ℕ) (xs : List (Sample E)) (h : HoldsSamples rows is xs) where
+    -- one sample more
+    pub one_more : (i : ℕ) (row : Row E) (st : State) → i < length is → slice_get rows (get_or is i 0) ≡ Some row
+        → measure_all dist q w (take (i + 1) xs) st ≡ measure dist q w (sample_in row) (measure_all dist q w (take i xs) st)
+    one_more i row st k n =
+        let at = holds_at is xs i h k in
+        let same : at.0 ≡ row = same_row rows (get_or is i 0) at.0 row at.1 n in
+        let one : get_or xs i (sample_in at.0) ≡ sample_in row = at.2 ∙ ap sample_in same in
+        ap (λ z. measure_all dist q w z st) (take_more xs i (sample_in at.0) (omega (arith, holds_length is xs h)) ∙ ap (λ z. take i xs ++ (z ∷ [])) one)
+        ∙ measure_push dist q w (take i xs) (sample_in row) st
 
-    pub leaf_at : (xs : List (Sample E)) (i : ℕ) → HoldsSamples rows (held l) xs → i < l.count
-        → (r : Row E) × (slice_get rows (get_or l.rows i 0) ≡ Some r) × (get_or xs i (sample_in r) ≡ sample_in r)
-    leaf_at xs i h k =
-        let at = holds_at (held l) xs i h (omega (arith, held_length)) in
-        (at.0, ap (slice_get rows) (sym (get_or-take l.count l.rows i 0 k)) ∙ at.1, at.2)
-
-    module _ (dist : E → E → ℕ) (q : E) (w : Want) (xs : List (Sample E)) (h : HoldsSamples rows (held l) xs) where
-      -- one sample more
-      pub leaf_more : (i : ℕ) (row : Row E) (st : State) → i < l.count → slice_get rows (get_or l.rows i 0) ≡ Some row
-          → measure_all dist q w (take (i + 1) xs) st ≡ measure dist q w (sample_in row) (measure_all dist q w (take i xs) st)
-      leaf_more i row st k n =
-          let at = leaf_at xs i h k in
-          let same : at.0 ≡ row = same_row rows (get_or l.rows i 0) at.0 row at.1 n in
-          let one : get_or xs i (sample_in at.0) ≡ sample_in row = at.2 ∙ ap sample_in same in
-          ap (λ z. measure_all dist q w z st) (take_more xs i (sample_in at.0) (omega (arith, held_length, holds_length (held l) xs h)) ∙ ap (λ z. take i xs ++ (z ∷ [])) one)
-          ∙ measure_push dist q w (take i xs) (sample_in row) st
-
-      pub leaf_all : (i : ℕ) → l.count ≤ i → take i xs ≡ xs
-      leaf_all i k = take_all i xs (omega (arith, held_length, holds_length (held l) xs h))
+    pub all_of : (i : ℕ) → length is ≤ i → take i xs ≡ xs
+    all_of i k = take_all i xs (omega (arith, holds_length is xs h))

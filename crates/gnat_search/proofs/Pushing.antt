@@ -1,6 +1,6 @@
 -- The rows of open children, one by one. Assumes nothing.
-use Rattle.std.proofs.Common.{◌≡◌, ℕ, suc, ◌+◌, ◌-◌, ◌<◌, ◌≤◌, Bool, true, false, cond, List, [], ◌∷◌, ◌++◌, length, get_or, take, set, sym, ap, ◌∙◌, arith}
-use Rattle.std.proofs.lemmas.List.{take_more_set, append_assoc}
+use Rattle.std.proofs.Common.{◌≡◌, ℕ, suc, ◌+◌, ◌-◌, ◌<◌, Bool, true, false, cond, List, [], ◌∷◌, ◌++◌, get_or, sym, ap, ◌∙◌, arith}
+use Rattle.std.proofs.lemmas.List.{append_assoc}
 use Rattle.gnat_search.specs.Nodes.{open_rows}
 
 module _ (rows : List ℕ) (flags : List Bool) (i count : ℕ) (l : i < count) where
@@ -17,12 +17,9 @@ module _ (rows : List ℕ) (flags : List Bool) (i count : ℕ) (l : i < count) w
   open_more e = sym (step ∙ ap (λ t. cond t (open_rows rows flags (i + 1) (count - (i + 1))) (get_or rows i 0 ∷ open_rows rows flags (i + 1) (count - (i + 1)))) e)
 
   -- one more row is pushed
-  pub open_pushed : (pending : List ℕ) (top : ℕ) → top < length pending → get_or flags i false ≡ false
-      → take (top + 1) (set pending top (get_or rows i 0)) ++ open_rows rows flags (i + 1) (count - (i + 1)) ≡ take top pending ++ open_rows rows flags i (count - i)
-  open_pushed pending top t e =
-      ap (λ z. z ++ open_rows rows flags (i + 1) (count - (i + 1))) (take_more_set pending top (get_or rows i 0) t)
-      ∙ (append_assoc (take top pending) (get_or rows i 0 ∷ []) (open_rows rows flags (i + 1) (count - (i + 1)))
-      ∙ ap (λ z. take top pending ++ z) (open_more e))
-
-pub none_left : (rows : List ℕ) (flags : List Bool) (i count : ℕ) → count ≤ i → open_rows rows flags i (count - i) ≡ []
-none_left rows flags i count l = let e : count - i ≡ 0 = omega arith in ap (open_rows rows flags i) e
+  pub open_pushed : (pending : List ℕ) (row : ℕ) → row ≡ get_or rows i 0 → get_or flags i false ≡ false
+      → (pending ++ (row ∷ [])) ++ open_rows rows flags (i + 1) (count - (i + 1)) ≡ pending ++ open_rows rows flags i (count - i)
+  open_pushed pending row is e =
+      ap (λ z. (pending ++ (z ∷ [])) ++ open_rows rows flags (i + 1) (count - (i + 1))) is
+      ∙ (append_assoc pending (get_or rows i 0 ∷ []) (open_rows rows flags (i + 1) (count - (i + 1)))
+      ∙ ap (λ z. pending ++ z) (open_more e))

@@ -13,24 +13,17 @@ use Rattle.gnat_rows.specs.declared.Node.{Node}
 use Rattle.gnat_rows.specs.declared.Node.TheVariants as node
 use Rattle.gnat_rows.specs.declared.Row.{Row}
 use Rattle.gnat_rows.specs.Shows.{HoldsSamples, Shows, ShowsParts, sample_in, pivot_in, held}
-use Rattle.gnat_search.specs.Nodes.{Flags, open_rows}
+use Rattle.gnat_search.specs.Nodes.{Flags, open_rows, Waiting}
 use Rattle.gnat_search.proofs.Rows.{same_row}
 
 module _ {E : Type 0} (rows : List (Row E)) where
-  -- the nodes in these rows show these trees
-  abbrev pub Waiting : List ℕ → List (Tree E) → Type 0
-  Waiting [] [] = Unit {0}
-  Waiting [] (t ∷ ts) = ⊥
-  Waiting (i ∷ is) [] = ⊥
-  Waiting (i ∷ is) (t ∷ ts) = (r : Row E) × (fs : List ℕ) × (slice_get rows i ≡ Some r) × Shows rows r.node t fs × Waiting is ts
-
-  pub waiting_length : (is : List ℕ) (ts : List (Tree E)) → Waiting is ts → length is ≡ length ts
+  pub waiting_length : (is : List ℕ) (ts : List (Tree E)) → Waiting rows is ts → length is ≡ length ts
   waiting_length [] [] w = refl
   waiting_length [] (t ∷ ts) w = absurd w
   waiting_length (i ∷ is) [] w = absurd w
   waiting_length (i ∷ is) (t ∷ ts) w = ap suc (waiting_length is ts w.4)
 
-  pub waiting_append : (is js : List ℕ) (ts us : List (Tree E)) → Waiting is ts → Waiting js us → Waiting (is ++ js) (ts ++ us)
+  pub waiting_append : (is js : List ℕ) (ts us : List (Tree E)) → Waiting rows is ts → Waiting rows js us → Waiting rows (is ++ js) (ts ++ us)
   waiting_append [] js [] us w v = v
   waiting_append [] js (t ∷ ts) us w v = absurd w
   waiting_append (i ∷ is) js [] us w v = absurd w
@@ -41,13 +34,13 @@ module _ {E : Type 0} (rows : List (Row E)) where
     pub before : List (Tree E)
     pub tree : Tree E
     pub split : ts ≡ before ++ (tree ∷ [])
-    pub waits : Waiting is before
+    pub waits : Waiting rows is before
     pub row : Row E
     pub fs : List ℕ
     pub at : slice_get rows i ≡ Some row
     pub shows : Shows rows row.node tree fs
 
-  pub waiting_last : (is : List ℕ) (i : ℕ) (ts : List (Tree E)) → Waiting (is ++ (i ∷ [])) ts → Last is i ts
+  pub waiting_last : (is : List ℕ) (i : ℕ) (ts : List (Tree E)) → Waiting rows (is ++ (i ∷ [])) ts → Last is i ts
   waiting_last [] i [] w = absurd w
   waiting_last [] i (t ∷ []) w = record { before = []; tree = t; split = refl; waits = tt; row = w.0; fs = w.1; at = w.2; shows = w.3 }
   waiting_last [] i (t ∷ (u ∷ ts)) w = absurd w.4
@@ -58,14 +51,14 @@ module _ {E : Type 0} (rows : List (Row E)) where
 
   -- the rows of the children that are not struck
   pub waiting_open : (b : Branch) (flags : List Bool) (ss : List Sight) → Flags b flags ss → (ps : Parts E) (j : ℕ) (fs : List ℕ) → j + length (pivots ps) ≡ b.count → ShowsParts rows b j ps fs
-      → Waiting (open_rows b.pivots flags j (length (pivots ps))) (unstruck ps ss)
+      → Waiting rows (open_rows b.pivots flags j (length (pivots ps))) (unstruck ps ss)
   waiting_open b flags ss f none j fs n s = tt
   waiting_open b flags ss f (part p col t rest) j fs n s = go (waiting_open b flags ss f rest (suc j) s.2 (omega arith) s.7) (struck ss col) (f j (omega arith) ∙ ap (struck ss) s.5)
     where
-      go : Waiting (open_rows b.pivots flags (suc j) (length (pivots rest))) (unstruck rest ss) → (x : Bool) → get_or flags j false ≡ x
-          → Waiting (cond (get_or flags j false) (open_rows b.pivots flags (suc j) (length (pivots rest))) (get_or b.pivots j 0 ∷ open_rows b.pivots flags (suc j) (length (pivots rest)))) (cond x (unstruck rest ss) (t ∷ unstruck rest ss))
-      go ih true e = subst (λ y. Waiting (cond y (open_rows b.pivots flags (suc j) (length (pivots rest))) (get_or b.pivots j 0 ∷ open_rows b.pivots flags (suc j) (length (pivots rest)))) (unstruck rest ss)) (sym e) ih
-      go ih false e = subst (λ y. Waiting (cond y (open_rows b.pivots flags (suc j) (length (pivots rest))) (get_or b.pivots j 0 ∷ open_rows b.pivots flags (suc j) (length (pivots rest)))) (t ∷ unstruck rest ss)) (sym e) (s.0, s.1, s.3, s.6, ih)
+      go : Waiting rows (open_rows b.pivots flags (suc j) (length (pivots rest))) (unstruck rest ss) → (x : Bool) → get_or flags j false ≡ x
+          → Waiting rows (cond (get_or flags j false) (open_rows b.pivots flags (suc j) (length (pivots rest))) (get_or b.pivots j 0 ∷ open_rows b.pivots flags (suc j) (length (pivots rest)))) (cond x (unstruck rest ss) (t ∷ unstruck rest ss))
+      go ih true e = subst (λ y. Waiting rows (cond y (open_rows b.pivots flags (suc j) (length (pivots rest))) (get_or b.pivots j 0 ∷ open_rows b.pivots flags (suc j) (length (pivots rest)))) (unstruck rest ss)) (sym e) ih
+      go ih false e = subst (λ y. Waiting rows (cond y (open_rows b.pivots flags (suc j) (length (pivots rest))) (get_or b.pivots j 0 ∷ open_rows b.pivots flags (suc j) (length (pivots rest)))) (t ∷ unstruck rest ss)) (sym e) (s.0, s.1, s.3, s.6, ih)
 
   -- what a node shows, by its kind
   pub shown_leaf : (n : Node) (t : Tree E) (fs : List ℕ) (l : Leaf) → n ≡ node.Leaf l → Shows rows n t fs → (xs : List (Sample E)) × (t ≡ leaf xs) × (length l.rows ≡ 32) × (l.count ≤ 32) × HoldsSamples rows (held l) xs

@@ -10,7 +10,7 @@ use Rattle.gnat_rows.specs.declared.Node.{Node}
 use Rattle.gnat_rows.specs.declared.Node.TheVariants as node
 use Rattle.gnat_rows.specs.declared.Row.{Row}
 use Rattle.gnat_rows.specs.Shows.{Shows, ShowsParts}
-use Rattle.gnat_search.proofs.Waiting.{Waiting}
+use Rattle.gnat_search.specs.Nodes.{Waiting}
 
 module _ {E : Type 0} (rows : List (Row E)) where
   -- a number of the node in a row
@@ -61,13 +61,10 @@ module _ {E : Type 0} (rows : List (Row E)) where
       let others : waiting_below k is ≡ weight ts = waiting_is k is ts (omega arith) w.4 in
       omega arith
 
-  -- the node that is visited, the rows that are pending, and the pivots below them
-  pub left_over : List ℕ → Node → ℕ
-  left_over is n = waiting_below 1024 is + suc (pivots_below 1024 n)
+  -- the rows that are pending, and the pivots below them
+  pub pending_below : List ℕ → ℕ
+  pending_below is = waiting_below 1024 is
 
-  pub left_over_is : (is : List ℕ) (n : Node) (ts : List (Tree E)) (t : Tree E) (fs : List ℕ) → weight ts + suc (pivot_count t) ≤ 1025 → Waiting rows is ts → Shows rows n t fs → left_over is n ≡ weight ts + suc (pivot_count t)
-  unfolding left_over
-  left_over_is is n ts t fs l w s =
-      let here : pivots_below 1024 n ≡ pivot_count t = below_is t 1024 n fs (omega arith) s in
-      let others : waiting_below 1024 is ≡ weight ts = waiting_is 1024 is ts (omega arith) w in
-      omega arith
+  pub pending_is : (is : List ℕ) (ts : List (Tree E)) → weight ts ≤ 1025 → Waiting rows is ts → pending_below is ≡ weight ts
+  unfolding pending_below
+  pending_is is ts l w = waiting_is 1024 is ts (omega arith) w

@@ -1,9 +1,11 @@
 -- What a search does at the nodes that it visits.
-use Rattle.std.specs.Prelude.{◌≡◌, ℕ, zero, suc, ◌<◌, ◌≤◌, Bool, false, cond, List, [], ◌∷◌, ◌++◌, length, slice_index, slice_index_or}
+use Rattle.std.specs.Prelude.{◌≡◌, ℕ, zero, suc, ◌<◌, ◌≤◌, Bool, false, cond, List, [], ◌∷◌, ◌++◌, length, slice_index, slice_index_or, Some}
+use Rattle.std.specs.List.{slice_get}
 use Rattle.hits.specs.declared.Hit.{Hit}
 use Rattle.hits.specs.Samples.{Sample}
-use Rattle.gnat_theory.specs.Tree.{Tree, Parts, pivots}
+use Rattle.gnat_theory.specs.Tree.{Tree, Parts, Range, pivots}
 use Rattle.gnat_theory.specs.Searching.{State, Sight, start, struck, measure_all, survey, searched}
+use Rattle.gnat_theory.specs.Pending.{turn}
 use Rattle.gnat_theory.specs.Shapes.{pivot_count}
 use Rattle.gnat_rows.specs.declared.Leaf.{Leaf as LeafRecord}
 use Rattle.gnat_rows.specs.declared.Branch.{Branch as BranchRecord}
@@ -13,6 +15,10 @@ use Rattle.gnat_rows.specs.Shows.{HoldsSamples, Shows, ShowsParts, held, column}
 use Rattle.gnat_search.specs.declared.Aim.{Aim}
 use Rattle.gnat_search.specs.declared.Found.{Found}
 use Rattle.gnat_search.specs.Wants.{want, Kept, Steps}
+
+-- there is a range of the pivot i to the child j, and this holds of it
+abbrev pub HasRange : BranchRecord → ℕ → ℕ → (Range → Type 0) → Type 0
+HasRange b j i P = (r : Range) × (slice_get (column b j) i ≡ Some r) × P r
 
 -- which children the pivots seen strike
 abbrev pub Flags : BranchRecord → List Bool → List Sight → Type 0
@@ -36,6 +42,13 @@ module _ {E : Type 0} (rows : List (Row E)) where
   abbrev pub BranchShown : BranchRecord → Type 0
   BranchShown b = (ps : Parts E) × (fs : List ℕ) × (b.count ≡ length (pivots ps)) × (b.count ≤ 8) × ShowsParts rows b 0 ps fs
 
+  -- the nodes in these rows show these trees
+  abbrev pub Waiting : List ℕ → List (Tree E) → Type 0
+  Waiting [] [] = Unit {0}
+  Waiting [] (t ∷ ts) = ⊥
+  Waiting (i ∷ is) [] = ⊥
+  Waiting (i ∷ is) (t ∷ ts) = (r : Row E) × (fs : List ℕ) × (slice_get rows i ≡ Some r) × Shows rows r.node t fs × Waiting is ts
+
   -- the node shows a tree with at most so many pivots
   abbrev pub Searchable : ℕ → Node → Type 0
   Searchable most n = (t : Tree E) × (fs : List ℕ) × Shows rows n t fs × (pivot_count t ≤ most)
@@ -50,6 +63,13 @@ module _ {E : Type 0} (rows : List (Row E)) where
     BranchSurveyed b before after p r flags =
         (ps : Parts E) (fs : List ℕ) → b.count ≡ length (pivots ps) → ShowsParts rows b 0 ps fs → (old : List Hit) (st : State) → Kept old before p st
         → Kept old after r (survey dist q (want aim (length before)) ps [] st).1 × Flags b flags (survey dist q (want aim (length before)) ps [] st).0
+
+    -- One turn of the search was made with the tree shown: the rows of the trees that it puts on the list stand behind
+    -- those that were pending.
+    abbrev pub Visited : Node → List Hit → List Hit → Found → Found → List ℕ → List ℕ → Type 0
+    Visited n before after p r is js =
+        (t : Tree E) (fs : List ℕ) → Shows rows n t fs → (old : List Hit) (st : State) → Kept old before p st
+        → Kept old after r (turn dist q (want aim (length before)) t st).1 × ((ks : List ℕ) × (js ≡ is ++ ks) × Waiting ks (turn dist q (want aim (length before)) t st).0)
 
     -- The list, `old` before, holds what the search of the tree shown keeps, as much of it as has a place there, and all
     -- is counted.

@@ -1,37 +1,41 @@
-use Rattle.std.proofs.Common.{◌+◌, ◌-◌, ◌++◌, take, sym, ap, ◌∙◌, arith}
-use Rattle.std.proofs.lemmas.List.{append-nil}
+use Rattle.std.proofs.Common.{◌+◌, ◌-◌, ◌<◌, false, ◌++◌, length, take, sym, ap, ◌∙◌, arith, length-take, rules}
+use Rattle.std.proofs.lemmas.List.{get_or-take, length_push}
+use Rattle.std.proofs.lemmas.Slice.Zip.{zip_turn}
 use Rattle.gnat_search.specs.Nodes.{open_rows}
-use Rattle.gnat_search.proofs.Pushing.{open_struck, open_pushed, none_left}
+use Rattle.gnat_search.proofs.Pushing.{open_struck, open_pushed}
 use Rattle.gnat_search.proofs.push_open.Goals as goal
-use Rattle.gnat_search.proofs.push_open.Goals.{then-not-struck-i, else-not-struck-i}
 
-pub loop-i-preserved : goal.loop-i-preserved
-loop-i-preserved c =
-    let pivots = c.args.branch.now.pivots in
+pub loop-row-preserved-then-not-struck : goal.loop-row-preserved-then-not-struck
+loop-row-preserved-then-not-struck c =
+    let rows = c.args.branch.now.pivots in
     let flags = c.args.struck.now in
-    let i = c.loop-i.i in
     let count = c.args.branch.now.count in
-    let rest = open_rows pivots flags (i + 1) (count - (i + 1)) in
-    elim c.if-not-struck-i.branch [
-      | then-not-struck-i w ↦ (
-        omega (arith, w.top-is, c.loop-i.invariant.0),
-        ap (λ z. take z c.if-not-struck-i.pending ++ rest) w.top-is
-            ∙ (ap (λ z. take (c.loop-i.top + 1) z ++ rest) w.pending-is
-            ∙ (open_pushed pivots flags i count c.loop-i-test.true c.loop-i.pending c.loop-i.top (omega (arith, c.loop-i.invariant.0, c.requires.1)) w.if-not-struck-i.true ∙ c.loop-i.invariant.1)),
-      )
-      | else-not-struck-i w ↦ (
-        omega (arith, w.top-is, c.loop-i.invariant.0),
-        ap (λ z. take z c.if-not-struck-i.pending ++ rest) w.top-is
-            ∙ (ap (λ z. take c.loop-i.top z ++ rest) w.pending-is
-            ∙ (ap (λ z. take c.loop-i.top c.loop-i.pending ++ z) (open_struck pivots flags i count c.loop-i-test.true w.if-not-struck-i.false) ∙ c.loop-i.invariant.1)),
-      )
-    ]
+    let i = length c.loop-row.yielded in
+    let inv = c.loop-row.invariant in
+    let t = zip_turn (take count rows) flags c.loop-row.yielded c.into_iter-row-iterator.result c.loop-row.row-iterator c.next.new.self c.next.result (search rules) (search rules) c.loop-row.yielded_by (c.in-Some.row, c.in-Some.struck) c.in-Some.is c.next.ensures.steps in
+    let l : i < count = omega (arith, t.0, length-take count rows) in
+    let more = length_push c.loop-row.yielded (c.in-Some.row, c.in-Some.struck) in (
+      (tt, tt),
+      tt,
+      omega (arith, c.push.ensures.len, inv.2, more),
+      ap (λ n. c.push.new.self.items ++ open_rows rows flags n (count - n)) more
+          ∙ (ap (λ z. z ++ open_rows rows flags (i + 1) (count - (i + 1))) c.push.ensures.items
+          ∙ (open_pushed rows flags i count l c.loop-row.pending.items c.in-Some.row.now (t.2 0 ∙ get_or-take count rows i 0 l) (sym (t.3 false) ∙ c.if-not-struck.true) ∙ inv.3)),
+    )
 
-pub returns : goal.returns
-returns c = record {
-  most = omega (arith, c.loop-i.invariant.0, c.loop-i.auto.i-end);
-  pushed =
-      sym (append-nil (take c.loop-i.top c.loop-i.pending))
-      ∙ (ap (λ z. take c.loop-i.top c.loop-i.pending ++ z) (sym (none_left c.args.branch.now.pivots c.args.struck.now c.loop-i.i c.args.branch.now.count c.loop-i-test.false))
-      ∙ c.loop-i.invariant.1);
-}
+pub loop-row-preserved : goal.loop-row-preserved
+loop-row-preserved c =
+    let rows = c.args.branch.now.pivots in
+    let flags = c.args.struck.now in
+    let count = c.args.branch.now.count in
+    let i = length c.loop-row.yielded in
+    let inv = c.loop-row.invariant in
+    let t = zip_turn (take count rows) flags c.loop-row.yielded c.into_iter-row-iterator.result c.loop-row.row-iterator c.next.new.self c.next.result (search rules) (search rules) c.loop-row.yielded_by (c.in-Some.row, c.in-Some.struck) c.in-Some.is c.next.ensures.steps in
+    let l : i < count = omega (arith, t.0, length-take count rows) in
+    let more = length_push c.loop-row.yielded (c.in-Some.row, c.in-Some.struck) in (
+      (tt, tt),
+      tt,
+      omega (arith, inv.2, more),
+      ap (λ n. c.loop-row.pending.items ++ open_rows rows flags n (count - n)) more
+          ∙ (ap (λ z. c.loop-row.pending.items ++ z) (open_struck rows flags i count l (sym (t.3 false) ∙ c.if-not-struck.false)) ∙ inv.3),
+    )

@@ -1,14 +1,11 @@
-use Rattle.std.proofs.Common.{◌≡◌, ◌≤◌, length, take}
-use Rattle.gnat_search.specs.Wants.{want}
-use Rattle.gnat_search.proofs.Weighing.{left_over}
-use Rattle.gnat_search.proofs.Visiting.{Visit}
+use Rattle.gnat_search.proofs.Weighing.{pending_below}
+use Rattle.gnat_search.proofs.Visiting.{Pause}
 use Rattle.gnat_search.proofs.search.Given as goal
 
 -- what is pending gives what is wanted
-abbrev pub invariant-loop-node : goal.invariant-loop-node
-invariant-loop-node g l =
-    (length l.pending ≡ 1024) × (l.top ≤ 1024) × Visit l.rows g.E.Metric.dist l.q (want l.aim (length l.initial.list)) l.root l.initial.list (take l.top l.pending) l.node l.list l.so_far
+abbrev pub invariant-loop-at : goal.invariant-loop-at
+invariant-loop-at g l = Pause l.fn.rows g.E.Metric.dist l.fn.q l.fn.aim l.fn.root l.fn.list l.pending.items l.list l.so_far
 
 -- what is pending grows less
-abbrev pub decreases-loop-node : goal.decreases-loop-node
-decreases-loop-node g l = left_over l.rows (take l.top l.pending) l.node
+abbrev pub decreases-loop-at : goal.decreases-loop-at
+decreases-loop-at g l = pending_below l.fn.rows l.pending.items

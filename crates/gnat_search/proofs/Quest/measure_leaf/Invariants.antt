@@ -1,0 +1,12 @@
+use Rattle.std.proofs.Common.{List, length, take}
+use Rattle.hits.specs.Samples.{Sample}
+use Rattle.gnat_theory.specs.Searching.{measure_all}
+use Rattle.gnat_rows.specs.Shows.{HoldsSamples, held}
+use Rattle.gnat_search.specs.Wants.{want, Counted, Steps}
+use Rattle.gnat_search.proofs.Quest.measure_leaf.Given as goal
+
+-- so many samples were measured
+abbrev pub invariant-loop-at : goal.invariant-loop-at
+invariant-loop-at g l =
+    Counted l.initial.so_far l.so_far l.at-index
+    × ((xs : List (Sample g.row.E.Denot)) → HoldsSamples l.self.rows.now (held l.leaf) xs → Steps (measure_all g.E.Metric.dist l.self.q.now (want l.self.aim (length l.initial.list)) (take l.at-index xs)) l.initial.list l.list l.initial.so_far l.so_far)
