@@ -29,6 +29,7 @@ use Rattle.gnat_order.proofs.Places.{places_placed, length_placed}
 use Rattle.gnat_order.proofs.Numbers.{there}
 use Rattle.gnat_order.proofs.Moves.{enlisted, shuffled_enlisted, take_swapped, length_swapped}
 use Rattle.gnat_order.proofs.Framing.{shows_placed, samples_placed, samples_only, places_only, samples_append, samples_other, places_kept}
+use Rattle.gnat_filing.specs.declared.settings.Settings.{Settings}
 use Rattle.gnat.specs.declared.gnat.Gnat.{Gnat}
 use Rattle.gnat.specs.Gnats.{capacity_of, listed, standing_in, gnat_meaning, gnat_tree, GnatSound}
 use Rattle.gnat.specs.Lawful.{listed_within}
@@ -122,7 +123,7 @@ module _ {E : Type 0} (dist : E → E → ℕ) (g : Gnat E) (o : GnatSound dist 
         ∙ ap (λ z. standing_in g ++ z) new)
 
     -- what filing leaves: the new rows and the new root
-    module _ (rows : List (Row E)) (root : Node) (lies : List ℕ) (shows : Shows rows root (grown dist g.degree g.bucket (record { number = number; element = e }) o.tree) lies) (same_rows : Shuffle ℕ lies (free_row ∷ o.lies)) (only : OnlyIn (free_row ∷ o.lies) prepared rows) (kept_length : length rows ≡ length prepared) where
+    module _ (rows : List (Row E)) (root : Node) (lies : List ℕ) (shows : Shows rows root (grown dist g.settings.degree g.settings.bucket (record { number = number; element = e }) o.tree) lies) (same_rows : Shuffle ℕ lies (free_row ∷ o.lies)) (only : OnlyIn (free_row ∷ o.lies) prepared rows) (kept_length : length rows ≡ length prepared) where
       as_long : length rows ≡ length g.rows.now
       as_long = kept_length ∙ prepared_length
 
@@ -142,13 +143,13 @@ module _ {E : Type 0} (dist : E → E → ℕ) (g : Gnat E) (o : GnatSound dist 
       same_capacity = ap (λ n. min n 1024) as_long
 
       abbrev grown_tree : Tree E
-      grown_tree = grown dist g.degree g.bucket (record { number = number; element = e }) o.tree
+      grown_tree = grown dist g.settings.degree g.settings.bucket (record { number = number; element = e }) o.tree
 
-      grown_files : Files dist g.degree g.bucket (standing_in g ++ (record { number = number; element = e } ∷ [])) grown_tree
-      grown_files = ((keeps_tree dist g.degree g.bucket (omega (arith, o.two)) o.room).by_filing (standing_in g) (record { number = number; element = e }) o.tree o.files).files
+      grown_files : Files dist g.settings.degree g.settings.bucket (standing_in g ++ (record { number = number; element = e } ∷ [])) grown_tree
+      grown_files = ((keeps_tree dist g.settings.degree g.settings.bucket (omega (arith, g.settings.two)) g.settings.room).by_filing (standing_in g) (record { number = number; element = e }) o.tree o.files).files
 
       grown_rows : Shuffle (Sample E) (members grown_tree) (record { number = number; element = e } ∷ members o.tree)
-      grown_rows = ((keeps_tree dist g.degree g.bucket (omega (arith, o.two)) o.room).by_filing (standing_in g) (record { number = number; element = e }) o.tree o.files).rows
+      grown_rows = ((keeps_tree dist g.settings.degree g.settings.bucket (omega (arith, g.settings.two)) g.settings.room).by_filing (standing_in g) (record { number = number; element = e }) o.tree o.files).rows
 
       rows_in_tree : length o.lies ≡ g.standing + g.marked
       rows_in_tree = length_shuffle _ _ o.lists ∙ length-take-le (g.standing + g.marked) (places g.rows.now) (omega (arith, long))
@@ -160,11 +161,11 @@ module _ {E : Type 0} (dist : E → E → ℕ) (g : Gnat E) (o : GnatSound dist 
           λ i. record { capacity = same_capacity i; last = is i; standing = standing i }
 
       -- its tree
-      pub add_tree : tree_of 1025 rows root ≡ grown dist g.degree g.bucket (record { number = number; element = e }) (gnat_tree g)
+      pub add_tree : tree_of 1025 rows root ≡ grown dist g.settings.degree g.settings.bucket (record { number = number; element = e }) (gnat_tree g)
       add_tree =
-          shown_tree rows grown_tree 1025 root lies shows (shallow dist rows root grown_tree lies g.degree g.bucket _ o.two grown_files shows (omega (arith, length_shuffle _ _ same_rows, rows_in_tree)))
-          ∙ ap (λ t. grown dist g.degree g.bucket (record { number = number; element = e }) t)
-          (sym (shown_tree g.rows.now o.tree 1025 g.root o.lies o.shows (shallow dist g.rows.now g.root o.tree o.lies g.degree g.bucket _ o.two o.files o.shows (omega (arith, rows_in_tree)))))
+          shown_tree rows grown_tree 1025 root lies shows (shallow dist rows root grown_tree lies g.settings.degree g.settings.bucket _ g.settings.two grown_files shows (omega (arith, length_shuffle _ _ same_rows, rows_in_tree)))
+          ∙ ap (λ t. grown dist g.settings.degree g.settings.bucket (record { number = number; element = e }) t)
+          (sym (shown_tree g.rows.now o.tree 1025 g.root o.lies o.shows (shallow dist g.rows.now g.root o.tree o.lies g.settings.degree g.settings.bucket _ g.settings.two o.files o.shows (omega (arith, rows_in_tree)))))
 
       -- those in use after it
       lists_more : Shuffle ℕ lies (take (suc (g.standing + g.marked)) (places rows))
@@ -180,8 +181,8 @@ module _ {E : Type 0} (dist : E → E → ℕ) (g : Gnat E) (o : GnatSound dist 
           in_turn _ _ _ same_rows (in_turn _ _ _ (subst (Shuffle ℕ (free_row ∷ o.lies)) (sym one_more) there) (subst (Shuffle ℕ front) (sym same) (shuffle_back _ _ (shuffled_enlisted s m front enough))))
 
       -- it stays sound
-      pub add_sound : (h : Gnat E) → h.rows.now ≡ rows → h.root ≡ root → h.degree ≡ g.degree → h.bucket ≡ g.bucket → h.standing ≡ g.standing + 1 → h.marked ≡ g.marked → h.last ≡ number → number ≡ g.last + 1 → number ≤ 65535 → GnatSound dist h
-      add_sound h rs rt dg bk st mk ls is few =
+      pub add_sound : (h : Gnat E) → h.rows.now ≡ rows → h.root ≡ root → h.settings ≡ g.settings → h.standing ≡ g.standing + 1 → h.marked ≡ g.marked → h.last ≡ number → number ≡ g.last + 1 → number ≤ 65535 → GnatSound dist h
+      add_sound h rs rt se st mk ls is few =
           let s = g.standing in
           let m = g.marked in
           let ps = places g.rows.now in
@@ -195,10 +196,6 @@ module _ {E : Type 0} (dist : E → E → ℕ) (g : Gnat E) (o : GnatSound dist 
           ap (λ k. samples_at h.rows.now (take k (places h.rows.now))) st ∙ (ap (λ z. samples_at z (take (s + 1) (places z))) rs ∙ new_standing) in
           let used : h.standing + h.marked ≡ suc (s + m) = omega arith in
           record {
-            two = omega (arith, o.two);
-            eight = omega (arith, o.eight);
-            room = omega (arith, o.room);
-            most = omega (arith, o.most);
             last_bound = omega arith;
             in_use = omega arith;
             within = subst (λ k. Within (take (capacity_of h) (places h.rows.now)) k) (sym cap) (all_shuffle (λ i. i < capacity_of g) _ _ moved o.within);
@@ -208,7 +205,7 @@ module _ {E : Type 0} (dist : E → E → ℕ) (g : Gnat E) (o : GnatSound dist 
             lies = lies;
             shows = subst (λ n. Shows h.rows.now n grown_tree lies) (sym rt) (subst (λ z. Shows z root grown_tree lies) (sym rs) shows);
             lists = subst (λ k. Shuffle ℕ lies (take k (places h.rows.now))) (sym used) (subst (λ z. Shuffle ℕ lies (take (suc (s + m)) (places z))) (sym rs) lists_more);
-            files = subst (λ d. Files dist d h.bucket (standing_in h) grown_tree) (sym dg) (subst (λ b. Files dist g.degree b (standing_in h) grown_tree) (sym bk) (subst (λ xs. Files dist g.degree g.bucket xs grown_tree) (sym stands) grown_files));
+            files = subst (λ (d : Settings). Files dist d.degree d.bucket (standing_in h) grown_tree) (sym se) (subst (λ xs. Files dist g.settings.degree g.settings.bucket xs grown_tree) (sym stands) grown_files);
             numbers = apart_shuffle _ _ (shuffle_back _ _ grown_rows) (All-weaker (λ x. x.number ≤ g.last) (λ x. number ≡ x.number → ⊥) (λ x low same. omega arith) (members o.tree) o.given, o.numbers);
             given = all_shuffle (λ x. x.number ≤ h.last) _ _ (shuffle_back _ _ grown_rows) (omega arith, All-weaker (λ x. x.number ≤ g.last) (λ x. x.number ≤ h.last) (λ x low. omega arith) (members o.tree) o.given);
           }

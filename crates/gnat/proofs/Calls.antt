@@ -43,10 +43,10 @@ module _ {E : Type 0} (dist : E → E → ℕ) (g : Gnat E) (o : GnatSound dist 
   pub whole_tree : gnat_tree g ≡ o.tree
   whole_tree =
       shown_tree g.rows.now o.tree 1025 g.root o.lies o.shows
-      (shallow dist g.rows.now g.root o.tree o.lies g.degree g.bucket _ o.two o.files o.shows (omega (arith, rows_in_tree, o.in_use)))
+      (shallow dist g.rows.now g.root o.tree o.lies g.settings.degree g.settings.bucket _ g.settings.two o.files o.shows (omega (arith, rows_in_tree, o.in_use)))
 
   pub tree_right : TreeRight dist g
-  tree_right = subst (Files dist g.degree g.bucket (standing_in g)) (sym whole_tree) o.files
+  tree_right = subst (Files dist g.settings.degree g.settings.bucket (standing_in g)) (sym whole_tree) o.files
 
   pub may_search : Searchable g.rows.now 1024 g.root
   may_search = (o.tree, o.lies, o.shows, omega (arith, rows_counted dist o.tree, shows_length g.rows.now g.root o.tree o.lies o.shows, rows_in_tree, o.in_use))

@@ -16,6 +16,7 @@ use Rattle.gnat_rows.proofs.Apart.{distinct_shuffle}
 use Rattle.gnat_rows.proofs.Trees.{shown_tree}
 use Rattle.gnat_order.proofs.Places.{places_placed, length_placed}
 use Rattle.gnat_order.proofs.Framing.{shows_placed, samples_placed, samples_only}
+use Rattle.gnat_filing.specs.declared.settings.Settings.{Settings}
 use Rattle.gnat.specs.declared.gnat.Gnat.{Gnat}
 use Rattle.gnat.specs.Gnats.{capacity_of, listed, standing_in, gnat_meaning, gnat_tree, GnatSound}
 use Rattle.gnat.specs.Lawful.{in_rows, listed_within}
@@ -126,8 +127,8 @@ module _ {E : Type 0} (dist : E → E → ℕ) (g : Gnat E) (o : GnatSound dist 
       ∙ (samples_only o.lies g.rows.now rows only kept_length (take i (listed g) ++ drop (suc i) (listed g)) left_within
       ∙ listed_without g.rows.now n 0 g.last (listed g) i r (listed_within dist g o) (omega (arith, listed_length)) o.rising (ap (slice_get g.rows.now) (get_or-take g.standing (places g.rows.now) i 0 inside) ∙ is_row) is_number)))
 
-  shrunk_files : Files dist g.degree g.bucket (without n (standing_in g)) (shrunk n o.tree)
-  shrunk_files = ((keeps_tree dist g.degree g.bucket (omega (arith, o.two)) o.room).by_dropping (standing_in g) n o.tree o.files).files
+  shrunk_files : Files dist g.settings.degree g.settings.bucket (without n (standing_in g)) (shrunk n o.tree)
+  shrunk_files = ((keeps_tree dist g.settings.degree g.settings.bucket (omega (arith, g.settings.two)) g.settings.room).by_dropping (standing_in g) n o.tree o.files).files
 
   new_shows : Shows reordered root (shrunk n o.tree) lies
   new_shows = shows_placed R rows (shrunk n o.tree) root lies shows
@@ -145,21 +146,17 @@ module _ {E : Type 0} (dist : E → E → ℕ) (g : Gnat E) (o : GnatSound dist 
   -- its tree
   pub drop_tree : tree_of 1025 reordered root ≡ shrunk n (gnat_tree g)
   drop_tree =
-      shown_tree reordered (shrunk n o.tree) 1025 root lies new_shows (shallow dist reordered root (shrunk n o.tree) lies g.degree g.bucket _ o.two shrunk_files new_shows few)
-      ∙ ap (shrunk n) (sym (shown_tree g.rows.now o.tree 1025 g.root o.lies o.shows (shallow dist g.rows.now g.root o.tree o.lies g.degree g.bucket _ o.two o.files o.shows was_few)))
+      shown_tree reordered (shrunk n o.tree) 1025 root lies new_shows (shallow dist reordered root (shrunk n o.tree) lies g.settings.degree g.settings.bucket _ g.settings.two shrunk_files new_shows few)
+      ∙ ap (shrunk n) (sym (shown_tree g.rows.now o.tree 1025 g.root o.lies o.shows (shallow dist g.rows.now g.root o.tree o.lies g.settings.degree g.settings.bucket _ g.settings.two o.files o.shows was_few)))
 
   -- it stays sound
-  pub drop_sound : (h : Gnat E) → h.rows.now ≡ reordered → h.root ≡ root → h.degree ≡ g.degree → h.bucket ≡ g.bucket → h.standing ≡ g.standing - 1 → h.marked ≡ marked → h.last ≡ g.last → GnatSound dist h
-  drop_sound h rs rt dg bk st mk ls =
+  pub drop_sound : (h : Gnat E) → h.rows.now ≡ reordered → h.root ≡ root → h.settings ≡ g.settings → h.standing ≡ g.standing - 1 → h.marked ≡ marked → h.last ≡ g.last → GnatSound dist h
+  drop_sound h rs rt se st mk ls =
       let cap : capacity_of h ≡ capacity_of g = ap (λ z. min (length z) 1024) rs ∙ same_capacity in
       let listing : take (capacity_of h) (places h.rows.now) ≡ take (capacity_of g) R = ap (λ k. take k (places h.rows.now)) cap ∙ ap (take (capacity_of g)) (ap places rs ∙ new_places) in
       let stands : standing_in h ≡ without n (standing_in g) = ap (λ k. samples_at h.rows.now (take k (places h.rows.now))) st ∙ (ap (λ z. samples_at z (take (g.standing - 1) (places z))) rs ∙ left_standing) in
       let used : h.standing + h.marked ≡ (g.standing - 1) + marked = omega arith in
       record {
-        two = omega (arith, o.two);
-        eight = omega (arith, o.eight);
-        room = omega (arith, o.room);
-        most = omega (arith, o.most);
         last_bound = omega (arith, o.last_bound);
         in_use = omega arith;
         within = subst (λ k. Within (take (capacity_of h) (places h.rows.now)) k) (sym cap) (subst (λ z. Within z (capacity_of g)) (sym listing) (all_shuffle (λ k. k < capacity_of g) _ _ AllSame o.within));
@@ -169,7 +166,7 @@ module _ {E : Type 0} (dist : E → E → ℕ) (g : Gnat E) (o : GnatSound dist 
         lies = lies;
         shows = subst (λ x. Shows h.rows.now x (shrunk n o.tree) lies) (sym rt) (subst (λ z. Shows z root (shrunk n o.tree) lies) (sym rs) new_shows);
         lists = subst (λ k. Shuffle ℕ lies (take k (places h.rows.now))) (sym used) (subst (λ ps. Shuffle ℕ lies (take ((g.standing - 1) + marked) ps)) (sym (ap places rs ∙ new_places)) lists);
-        files = subst (λ d. Files dist d h.bucket (standing_in h) (shrunk n o.tree)) (sym dg) (subst (λ b. Files dist g.degree b (standing_in h) (shrunk n o.tree)) (sym bk) (subst (λ xs. Files dist g.degree g.bucket xs (shrunk n o.tree)) (sym stands) shrunk_files));
+        files = subst (λ (d : Settings). Files dist d.degree d.bucket (standing_in h) (shrunk n o.tree)) (sym se) (subst (λ xs. Files dist g.settings.degree g.settings.bucket xs (shrunk n o.tree)) (sym stands) shrunk_files);
         numbers = apart_sub _ _ (shrunk_sub n o.tree) o.numbers;
         given = All-weaker (λ x. x.number ≤ g.last) (λ x. x.number ≤ h.last) (λ x low. omega arith) (members (shrunk n o.tree)) (all_sub (λ x. x.number ≤ g.last) _ _ (shrunk_sub n o.tree) o.given);
       }

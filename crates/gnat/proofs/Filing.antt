@@ -28,29 +28,29 @@ module _ {E : Type 0} (dist : E → E → ℕ) (g : Gnat E) (o : GnatSound dist 
   abbrev row : ℕ
   row = free_row dist g o roomy
 
-  with_it_ready : Ready g.degree g.bucket 1025 with_it g.root row o.tree o.lies
+  with_it_ready : Ready g.settings.degree g.settings.bucket 1025 with_it g.root row o.tree o.lies
   with_it_ready = record {
     shows = prepared_shows dist g o roomy number e;
     apart = free_apart dist g o roomy;
     within = omega (arith, free_within dist g o roomy, prepared_length dist g o roomy number e);
-    deep = omega (arith, depth_is_height o.tree, shallow dist g.rows.now g.root o.tree o.lies g.degree g.bucket _ o.two o.files o.shows (omega (arith, length_shuffle _ _ o.lists, length-take (g.standing + g.marked) (places g.rows.now), o.in_use)));
+    deep = omega (arith, depth_is_height o.tree, shallow dist g.rows.now g.root o.tree o.lies g.settings.degree g.settings.bucket _ g.settings.two o.files o.shows (omega (arith, length_shuffle _ _ o.lists, length-take (g.standing + g.marked) (places g.rows.now), o.in_use)));
     branching = o.files.branching;
     leaves = o.files.leaves;
   }
 
   -- the rows and the row as the program has them
   module _ (new : List (Row E)) (at : ℕ) (is_new : new ≡ with_it) (is_row : at ≡ row) where
-    pub may_file_new : Ready g.degree g.bucket 1025 new g.root at o.tree o.lies
+    pub may_file_new : Ready g.settings.degree g.settings.bucket 1025 new g.root at o.tree o.lies
     may_file_new =
-        subst (λ i. Ready g.degree g.bucket 1025 new g.root i o.tree o.lies) (sym is_row)
-        (subst (λ z. Ready g.degree g.bucket 1025 z g.root row o.tree o.lies) (sym is_new) with_it_ready)
+        subst (λ i. Ready g.settings.degree g.settings.bucket 1025 new g.root i o.tree o.lies) (sym is_row)
+        (subst (λ z. Ready g.settings.degree g.settings.bucket 1025 z g.root row o.tree o.lies) (sym is_new) with_it_ready)
 
-    module _ (later : List (Row E)) (root : Node) (files : FilesIn dist g.degree g.bucket 1025 new later g.root root at) (as_long : length later ≡ length new) where
-      left : LeavesTree with_it later root (grown dist g.degree g.bucket sample o.tree) (row ∷ o.lies)
+    module _ (later : List (Row E)) (root : Node) (files : FilesIn dist g.settings.degree g.settings.bucket 1025 new later g.root root at) (as_long : length later ≡ length new) where
+      left : LeavesTree with_it later root (grown dist g.settings.degree g.settings.bucket sample o.tree) (row ∷ o.lies)
       left =
           let there = prepared_row dist g o roomy number e in
-          let filed = subst (λ i. FilesIn dist g.degree g.bucket 1025 with_it later g.root root i) is_row (subst (λ z. FilesIn dist g.degree g.bucket 1025 z later g.root root at) is_new files) in
-          subst (λ s. LeavesTree with_it later root (grown dist g.degree g.bucket s o.tree) (row ∷ o.lies)) there.2 (filed o.tree o.lies there.0 with_it_ready there.1)
+          let filed = subst (λ i. FilesIn dist g.settings.degree g.settings.bucket 1025 with_it later g.root root i) is_row (subst (λ z. FilesIn dist g.settings.degree g.settings.bucket 1025 z later g.root root at) is_new files) in
+          subst (λ s. LeavesTree with_it later root (grown dist g.settings.degree g.settings.bucket s o.tree) (row ∷ o.lies)) there.2 (filed o.tree o.lies there.0 with_it_ready there.1)
 
       long : length later ≡ length with_it
       long = as_long ∙ ap length is_new
@@ -58,8 +58,8 @@ module _ {E : Type 0} (dist : E → E → ℕ) (g : Gnat E) (o : GnatSound dist 
       pub new_means : record { capacity = min (length later) 1024; last = number; standing = samples_at later (take (g.standing + 1) (places later)) } ≡ added (gnat_meaning g) e
       new_means = let l = left in add_means dist g o roomy number e later root l.lies l.shows l.same_rows l.only long refl
 
-      pub new_tree : tree_of 1025 later root ≡ grown dist g.degree g.bucket sample (gnat_tree g)
+      pub new_tree : tree_of 1025 later root ≡ grown dist g.settings.degree g.settings.bucket sample (gnat_tree g)
       new_tree = let l = left in add_tree dist g o roomy number e later root l.lies l.shows l.same_rows l.only long
 
-      pub new_sound : g.last < 65535 → (h : Gnat E) → h.rows.now ≡ later → h.root ≡ root → h.degree ≡ g.degree → h.bucket ≡ g.bucket → h.standing ≡ g.standing + 1 → h.marked ≡ g.marked → h.last ≡ g.last + 1 → GnatSound dist h
-      new_sound numbers h rs rt dg bk st mk ls = let l = left in add_sound dist g o roomy number e later root l.lies l.shows l.same_rows l.only long h rs rt dg bk st mk ls refl (omega arith)
+      pub new_sound : g.last < 65535 → (h : Gnat E) → h.rows.now ≡ later → h.root ≡ root → h.settings ≡ g.settings → h.standing ≡ g.standing + 1 → h.marked ≡ g.marked → h.last ≡ g.last + 1 → GnatSound dist h
+      new_sound numbers h rs rt se st mk ls = let l = left in add_sound dist g o roomy number e later root l.lies l.shows l.same_rows l.only long h rs rt se st mk ls refl (omega arith)

@@ -17,9 +17,8 @@ module _ {E : Type 0} (dist : E → E → ℕ) (g : Gnat E) (o : GnatSound dist 
     pub sound : GnatSound dist h
     pub free : h.standing + h.marked < capacity_of h
     pub means : gnat_meaning h ≡ gnat_meaning g
-    pub tree : gnat_tree h ≡ made_room dist g.degree g.bucket (capacity_of g) (standing_in g) (gnat_tree g)
-    pub degree : h.degree ≡ g.degree
-    pub bucket : h.bucket ≡ g.bucket
+    pub tree : gnat_tree h ≡ made_room dist g.settings.degree g.settings.bucket (capacity_of g) (standing_in g) (gnat_tree g)
+    pub settings : h.settings ≡ g.settings
     pub last : h.last ≡ g.last
 
   members_counted : length (members (gnat_tree g)) ≡ g.standing + g.marked
@@ -32,9 +31,8 @@ module _ {E : Type 0} (dist : E → E → ℕ) (g : Gnat E) (o : GnatSound dist 
         sound = o;
         free = free;
         means = refl;
-        tree = sym (cond-true (ltb (length (members (gnat_tree g))) (capacity_of g)) (gnat_tree g) (rebuilt dist g.degree g.bucket (standing_in g)) (lt-ltb (length (members (gnat_tree g))) (capacity_of g) (omega (arith, members_counted))));
-        degree = refl;
-        bucket = refl;
+        tree = sym (cond-true (ltb (length (members (gnat_tree g))) (capacity_of g)) (gnat_tree g) (rebuilt dist g.settings.degree g.settings.bucket (standing_in g)) (lt-ltb (length (members (gnat_tree g))) (capacity_of g) (omega (arith, members_counted))));
+        settings = refl;
         last = refl;
       }
 
@@ -45,9 +43,8 @@ module _ {E : Type 0} (dist : E → E → ℕ) (g : Gnat E) (o : GnatSound dist 
         sound = r.sound;
         free = omega (arith, r.standing, r.marked, same);
         means = r.means;
-        tree = r.tree ∙ sym (cond-false (ltb (length (members (gnat_tree g))) (capacity_of g)) (gnat_tree g) (rebuilt dist g.degree g.bucket (standing_in g)) (le-ltb (length (members (gnat_tree g))) (capacity_of g) (omega (arith, members_counted))));
-        degree = r.degree;
-        bucket = r.bucket;
+        tree = r.tree ∙ sym (cond-false (ltb (length (members (gnat_tree g))) (capacity_of g)) (gnat_tree g) (rebuilt dist g.settings.degree g.settings.bucket (standing_in g)) (le-ltb (length (members (gnat_tree g))) (capacity_of g) (omega (arith, members_counted))));
+        settings = r.settings;
         last = r.last;
       }
 
@@ -55,8 +52,7 @@ module _ {E : Type 0} (dist : E → E → ℕ) (g : Gnat E) (o : GnatSound dist 
   inserted e h k r f = record {
     sound = f.sound;
     means = f.means ∙ ap (λ m. added m e) r.means;
-    tree = f.tree ∙ (λ i. grown dist (r.degree i) (r.bucket i) (record { number = r.last i + 1; element = e }) (r.tree i));
-    degree = f.degree ∙ r.degree;
-    bucket = f.bucket ∙ r.bucket;
+    tree = f.tree ∙ (λ i. grown dist (r.settings i).degree (r.settings i).bucket (record { number = r.last i + 1; element = e }) (r.tree i));
+    settings = f.settings ∙ r.settings;
     last = f.last ∙ ap (λ n. n + 1) r.last;
   }

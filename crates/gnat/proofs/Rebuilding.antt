@@ -29,7 +29,8 @@ use Rattle.gnat_order.specs.Order.{Within, places}
 use Rattle.gnat_order.proofs.Places.{place_of}
 use Rattle.gnat_order.proofs.Numbers.{there}
 use Rattle.gnat_order.proofs.Framing.{samples_only, places_only, samples_append}
-use Rattle.gnat_filing.specs.Filed.{Settings, Ready, FilesIn, depth, deepest}
+use Rattle.gnat_filing.specs.Filed.{Ready, FilesIn, depth, deepest}
+use Rattle.gnat_filing.specs.declared.settings.Settings.{Settings}
 use Rattle.gnat.specs.declared.gnat.Gnat.{Gnat}
 use Rattle.gnat.specs.Gnats.{capacity_of, listed, standing_in, gnat_meaning, GnatSound}
 use Rattle.gnat.specs.Refiling.{Refiled}
@@ -93,12 +94,12 @@ module _ {E : Type 0} (dist : E → E → ℕ) where
       }
 
     -- the next row may be filed
-    module _ (settings : Settings degree bucket) (few : length order ≤ 1024) (within : Within order (length rows)) (apart : Distinct order) (j : ℕ) (inside : j < length order) (new : List (Row E)) (root : Node) (f : Refiled dist degree bucket rows order j new root) where
+    module _ (two : 2 ≤ degree) (room : degree ≤ bucket) (few : length order ≤ 1024) (within : Within order (length rows)) (apart : Distinct order) (j : ℕ) (inside : j < length order) (new : List (Row E)) (root : Node) (f : Refiled dist degree bucket rows order j new root) where
       abbrev filed_tree : Tree E
       filed_tree = rebuilt dist degree bucket (samples_at rows (take j order))
 
       so_far : Files dist degree bucket (samples_at rows (take j order)) filed_tree
-      so_far = ((keeps_tree dist degree bucket (omega (arith, settings.two)) settings.room).by_rebuilding (samples_at rows (take j order))).files
+      so_far = ((keeps_tree dist degree bucket (omega (arith, two)) room).by_rebuilding (samples_at rows (take j order))).files
 
       next_apart : Distinct (get_or order j 0 ∷ f.lies)
       next_apart =
@@ -111,7 +112,7 @@ module _ {E : Type 0} (dist : E → E → ℕ) where
         shows = f.shows;
         apart = next_apart;
         within = omega (arith, All-get_or (λ k. k < length rows) order j 0 inside within, f.as_long);
-        deep = omega (arith, depth_is_height filed_tree, shallow dist new root filed_tree f.lies degree bucket _ settings.two so_far f.shows (omega (arith, length_shuffle _ _ f.same_rows, length-take j order)));
+        deep = omega (arith, depth_is_height filed_tree, shallow dist new root filed_tree f.lies degree bucket _ two so_far f.shows (omega (arith, length_shuffle _ _ f.same_rows, length-take j order)));
         branching = so_far.branching;
         leaves = so_far.leaves;
       }
@@ -121,7 +122,7 @@ module _ {E : Type 0} (dist : E → E → ℕ) where
     refiled_none = record { lies = []; shows = (record { count = 0; rows = replicate 32 0 }, refl, refl, omega arith, refl, tt); same_rows = nothing; only = only_none rows order; as_long = refl }
 
 -- the row that is listed next is filed
-module _ {E : Type 0} (dist : E → E → ℕ) (degree bucket : ℕ) (rows : List (Row E)) (standing : ℕ) (settings : Settings degree bucket) (fits : standing ≤ length rows) (few : standing ≤ 1024) (within : Within (take standing (places rows)) (length rows)) (apart : Distinct (take standing (places rows)))
+module _ {E : Type 0} (dist : E → E → ℕ) (degree bucket : ℕ) (rows : List (Row E)) (standing : ℕ) (two : 2 ≤ degree) (room : degree ≤ bucket) (fits : standing ≤ length rows) (few : standing ≤ 1024) (within : Within (take standing (places rows)) (length rows)) (apart : Distinct (take standing (places rows)))
     (j : ℕ) (inside : j < standing) (new : List (Row E)) (root : Node) (f : Refiled dist degree bucket rows (take standing (places rows)) j new root) where
   abbrev order : List ℕ
   order = take standing (places rows)
@@ -134,7 +135,7 @@ module _ {E : Type 0} (dist : E → E → ℕ) (degree bucket : ℕ) (rows : Lis
       is-place ∙ (sym (place_of new j row is_row) ∙ (ap (λ ps. get_or ps j 0) (places_only order rows new f.only f.as_long) ∙ sym (get_or-take standing (places rows) j 0 inside)))
 
   next_ready : Ready degree bucket 1025 new root (get_or order j 0) (rebuilt dist degree bucket (samples_at rows (take j order))) f.lies
-  next_ready = ready_next dist degree bucket rows order settings (omega (arith, all_listed)) within apart j (omega (arith, all_listed)) new root f
+  next_ready = ready_next dist degree bucket rows order two room (omega (arith, all_listed)) within apart j (omega (arith, all_listed)) new root f
 
   pub may_file : (at : ℕ) → at ≡ get_or order j 0 → Ready degree bucket 1025 new root at (rebuilt dist degree bucket (samples_at rows (take j order))) f.lies
   may_file at same = subst (λ i. Ready degree bucket 1025 new root i (rebuilt dist degree bucket (samples_at rows (take j order))) f.lies) (sym same) next_ready
@@ -150,7 +151,7 @@ rising_at_most most low high [] l r = tt
 rising_at_most most low high (x ∷ xs) l r = (omega (arith, r.1), rising_at_most most x.number high xs l r.2)
 
 -- all that stand are filed anew: the marked rows are free
-module _ {E : Type 0} (dist : E → E → ℕ) (g : Gnat E) (o : GnatSound dist g) (new : List (Row E)) (root : Node) (f : Refiled dist g.degree g.bucket g.rows.now (listed g) g.standing new root) where
+module _ {E : Type 0} (dist : E → E → ℕ) (g : Gnat E) (o : GnatSound dist g) (new : List (Row E)) (root : Node) (f : Refiled dist g.settings.degree g.settings.bucket g.rows.now (listed g) g.standing new root) where
   long : length (places g.rows.now) ≡ length g.rows.now
   long = length-map g.rows.now (λ (r : Row E). r.place)
 
@@ -170,16 +171,16 @@ module _ {E : Type 0} (dist : E → E → ℕ) (g : Gnat E) (o : GnatSound dist 
   same_capacity = ap (λ n. min n 1024) f.as_long
 
   abbrev new_tree : Tree E
-  new_tree = rebuilt dist g.degree g.bucket (standing_in g)
+  new_tree = rebuilt dist g.settings.degree g.settings.bucket (standing_in g)
 
   new_shows : Shows new root new_tree f.lies
-  new_shows = subst (λ is. Shows new root (rebuilt dist g.degree g.bucket (samples_at g.rows.now is)) f.lies) whole f.shows
+  new_shows = subst (λ is. Shows new root (rebuilt dist g.settings.degree g.settings.bucket (samples_at g.rows.now is)) f.lies) whole f.shows
 
-  new_files : Files dist g.degree g.bucket (standing_in g) new_tree
-  new_files = ((keeps_tree dist g.degree g.bucket (omega (arith, o.two)) o.room).by_rebuilding (standing_in g)).files
+  new_files : Files dist g.settings.degree g.settings.bucket (standing_in g) new_tree
+  new_files = ((keeps_tree dist g.settings.degree g.settings.bucket (omega (arith, g.settings.two)) g.settings.room).by_rebuilding (standing_in g)).files
 
   new_rows : Shuffle (Sample E) (members new_tree) (standing_in g)
-  new_rows = ((keeps_tree dist g.degree g.bucket (omega (arith, o.two)) o.room).by_rebuilding (standing_in g)).rows
+  new_rows = ((keeps_tree dist g.settings.degree g.settings.bucket (omega (arith, g.settings.two)) g.settings.room).by_rebuilding (standing_in g)).rows
 
   few : length f.lies ≤ 1024
   few = omega (arith, length_shuffle _ _ f.same_rows, ap length whole, length-take g.standing (places g.rows.now), o.in_use)
@@ -187,20 +188,16 @@ module _ {E : Type 0} (dist : E → E → ℕ) (g : Gnat E) (o : GnatSound dist 
   pub rebuild_means : record { capacity = min (length new) 1024; last = g.last; standing = samples_at new (take g.standing (places new)) } ≡ gnat_meaning g
   rebuild_means = λ i. record { capacity = same_capacity i; last = g.last; standing = new_standing i }
 
-  pub rebuild_tree : tree_of 1025 new root ≡ rebuilt dist g.degree g.bucket (standing_in g)
-  rebuild_tree = shown_tree new new_tree 1025 root f.lies new_shows (shallow dist new root new_tree f.lies g.degree g.bucket _ o.two new_files new_shows few)
+  pub rebuild_tree : tree_of 1025 new root ≡ rebuilt dist g.settings.degree g.settings.bucket (standing_in g)
+  rebuild_tree = shown_tree new new_tree 1025 root f.lies new_shows (shallow dist new root new_tree f.lies g.settings.degree g.settings.bucket _ g.settings.two new_files new_shows few)
 
-  pub rebuild_sound : (h : Gnat E) → h.rows.now ≡ new → h.root ≡ root → h.degree ≡ g.degree → h.bucket ≡ g.bucket → h.standing ≡ g.standing → h.marked ≡ 0 → h.last ≡ g.last → GnatSound dist h
-  rebuild_sound h rs rt dg bk st mk ls =
+  pub rebuild_sound : (h : Gnat E) → h.rows.now ≡ new → h.root ≡ root → h.settings ≡ g.settings → h.standing ≡ g.standing → h.marked ≡ 0 → h.last ≡ g.last → GnatSound dist h
+  rebuild_sound h rs rt se st mk ls =
       let cap : capacity_of h ≡ capacity_of g = ap (λ z. min (length z) 1024) rs ∙ same_capacity in
       let listing : take (capacity_of h) (places h.rows.now) ≡ take (capacity_of g) (places g.rows.now) = ap (λ k. take k (places h.rows.now)) cap ∙ ap (take (capacity_of g)) (ap places rs ∙ new_places) in
       let stands : standing_in h ≡ standing_in g = ap (λ k. samples_at h.rows.now (take k (places h.rows.now))) st ∙ (ap (λ z. samples_at z (take g.standing (places z))) rs ∙ new_standing) in
       let used : h.standing + h.marked ≡ g.standing = omega arith in
       record {
-        two = omega (arith, o.two);
-        eight = omega (arith, o.eight);
-        room = omega (arith, o.room);
-        most = omega (arith, o.most);
         last_bound = omega (arith, o.last_bound);
         in_use = omega (arith, o.in_use);
         within = subst (λ k. Within (take (capacity_of h) (places h.rows.now)) k) (sym cap) (subst (λ z. Within z (capacity_of g)) (sym listing) o.within);
@@ -210,14 +207,13 @@ module _ {E : Type 0} (dist : E → E → ℕ) (g : Gnat E) (o : GnatSound dist 
         lies = f.lies;
         shows = subst (λ n. Shows h.rows.now n new_tree f.lies) (sym rt) (subst (λ z. Shows z root new_tree f.lies) (sym rs) new_shows);
         lists = subst (λ k. Shuffle ℕ f.lies (take k (places h.rows.now))) (sym used) (subst (λ ps. Shuffle ℕ f.lies (take g.standing ps)) (sym (ap places rs ∙ new_places)) (subst (Shuffle ℕ f.lies) whole f.same_rows));
-        files = subst (λ d. Files dist d h.bucket (standing_in h) new_tree) (sym dg) (subst (λ b. Files dist g.degree b (standing_in h) new_tree) (sym bk) (subst (λ xs. Files dist g.degree g.bucket xs new_tree) (sym stands) new_files));
+        files = subst (λ (d : Settings). Files dist d.degree d.bucket (standing_in h) new_tree) (sym se) (subst (λ xs. Files dist g.settings.degree g.settings.bucket xs new_tree) (sym stands) new_files);
         numbers = apart_shuffle _ _ (shuffle_back _ _ new_rows) (rising_apart 0 g.last (standing_in g) o.rising);
         given = all_shuffle (λ x. x.number ≤ h.last) _ _ (shuffle_back _ _ new_rows) (rising_at_most h.last 0 g.last (standing_in g) (omega arith) o.rising);
       }
 
 -- a sound GNAT's standing samples may be filed anew
 pub record MayRefile {E : Type 0} (g : Gnat E) : Type 0 where
-  pub settings : Settings g.degree g.bucket
   pub fits : g.standing ≤ length g.rows.now
   pub few : g.standing ≤ 1024
   pub within : Within (listed g) (length g.rows.now)
@@ -228,7 +224,6 @@ may_refile dist g o =
     let ps = take (capacity_of g) (places g.rows.now) in
     let cut : take g.standing ps ≡ listed g = take-take g.standing (capacity_of g) (places g.rows.now) (omega (arith, o.in_use)) in
     record {
-      settings = record { two = o.two; eight = o.eight; room = o.room; most = o.most };
       fits = in_rows dist g o;
       few = omega (arith, o.in_use);
       within = listed_within dist g o;

@@ -34,17 +34,13 @@ module _ {E : Type 0} (dist : E → E → ℕ) (rows new : List (Row E)) (count 
   pub new_means : record { capacity = min (length new) 1024; last = 0; standing = [] } ≡ fresh {E = E} (min (length rows) 1024)
   new_means = ap (λ n. fresh (min n 1024)) as_long
 
-  pub new_sound : (g : Gnat E) → g.rows.now ≡ new → g.root ≡ empty → 2 ≤ g.degree → g.degree ≤ 8 → g.degree ≤ g.bucket → g.bucket ≤ 32 → g.standing ≡ 0 → g.marked ≡ 0 → g.last ≡ 0 → GnatSound dist g
-  new_sound g rs root two eight room most standing marked last =
+  pub new_sound : (g : Gnat E) → g.rows.now ≡ new → g.root ≡ empty → g.standing ≡ 0 → g.marked ≡ 0 → g.last ≡ 0 → GnatSound dist g
+  new_sound g rs root standing marked last =
       let cap : capacity_of g ≡ count = ap (λ z. min (length z) 1024) rs ∙ same_count in
       let listing : take (capacity_of g) (places g.rows.now) ≡ take count (counted count (places rows)) = ap (λ k. take k (places g.rows.now)) cap ∙ ap (take count) (ap places rs ∙ own_places) in
       let none : g.standing + g.marked ≡ 0 = omega arith in
       let nobody : standing_in g ≡ [] = ap (λ k. samples_at g.rows.now (take k (places g.rows.now))) standing in
       record {
-        two = two;
-        eight = eight;
-        room = room;
-        most = most;
         last_bound = omega arith;
         in_use = omega arith;
         within = subst (λ k. Within (take (capacity_of g) (places g.rows.now)) k) (sym cap) (subst (λ z. Within z count) (sym listing) (subst (Within (take count (counted count (places rows)))) (omega arith) (counted_within 0 count (places rows) enough)));
@@ -54,7 +50,7 @@ module _ {E : Type 0} (dist : E → E → ℕ) (rows new : List (Row E)) (count 
         lies = [];
         shows = (record { count = 0; rows = replicate 32 0 }, root, refl, omega arith, refl, tt);
         lists = subst (λ k. Shuffle ℕ [] (take k (places g.rows.now))) (sym none) nothing;
-        files = subst (λ xs. Files dist g.degree g.bucket xs (leaf [])) (sym nobody) (keeps_tree dist g.degree g.bucket (omega arith) room).at_first;
+        files = subst (λ xs. Files dist g.settings.degree g.settings.bucket xs (leaf [])) (sym nobody) (keeps_tree dist g.settings.degree g.settings.bucket (omega (arith, g.settings.two)) g.settings.room).at_first;
         numbers = tt;
         given = tt;
       }

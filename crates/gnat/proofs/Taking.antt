@@ -81,31 +81,30 @@ module _ {E : Type 0} (dist : E → E → ℕ) (g : Gnat E) (o : GnatSound dist 
     it_stands : Among (sample_in r) (standing o.tree)
     it_stands = among_shuffle (sample_in r) (standing_in g) (standing o.tree) (shuffle_back _ _ o.files.stands) it_is_listed
 
-    pub may_take : Droppable dist g.degree 1025 old g.root row o.tree o.lies r
+    pub may_take : Droppable dist g.settings.degree 1025 old g.root row o.tree o.lies r
     may_take = record {
       shows = o.shows;
       apart = in_tree_distinct dist g o at inside o.lies;
       there = is_row;
       lies = in_tree;
       stands = it_stands;
-      deep = omega (arith, depth_is_height o.tree, shallow dist old g.root o.tree o.lies g.degree g.bucket _ o.two o.files o.shows (omega (arith, length_shuffle _ _ o.lists, length-take (g.standing + g.marked) (places old), o.in_use)));
-      some = omega (arith, o.two);
+      deep = omega (arith, depth_is_height o.tree, shallow dist old g.root o.tree o.lies g.settings.degree g.settings.bucket _ g.settings.two o.files o.shows (omega (arith, length_shuffle _ _ o.lists, length-take (g.standing + g.marked) (places old), o.in_use)));
+      some = omega (arith, g.settings.two);
       branching = o.files.branching;
       placed = o.files.placed;
       numbers = o.numbers;
     }
 
-    module _ (n : ℕ) (is_number : r.number ≡ n) (later : List (Row E)) (root : Node) (kept_length : length later ≡ length old) (h : Gnat E) (is_root : h.root ≡ root) (same_degree : h.degree ≡ g.degree) (same_bucket : h.bucket ≡ g.bucket) (one_less : h.standing ≡ g.standing - 1) (same_last : h.last ≡ g.last) where
+    module _ (n : ℕ) (is_number : r.number ≡ n) (later : List (Row E)) (root : Node) (kept_length : length later ≡ length old) (h : Gnat E) (is_root : h.root ≡ root) (same_settings : h.settings ≡ g.settings) (one_less : h.standing ≡ g.standing - 1) (same_last : h.last ≡ g.last) where
       -- the rows in the order R, with so many marked
       module _ (lies : List ℕ) (d : Shows later root (shrunk n o.tree) lies × OnlyIn o.lies old later) (R : List ℕ) (marked : ℕ) (RLength : length R ≡ length old) (first : take (g.standing - 1) R ≡ take at (listed g) ++ drop (suc at) (listed g))
           (AllSame : Shuffle ℕ (take (capacity_of g) (places old)) (take (capacity_of g) R)) (fits : (g.standing - 1) + marked ≤ capacity_of g) (lists : Shuffle ℕ lies (take ((g.standing - 1) + marked) R)) (is_rows : h.rows.now ≡ placed R later) (is_marked : h.marked ≡ marked) where
         ordered : TakenOut dist g n h
         ordered = record {
-          sound = drop_sound dist g o at n inside r is_row is_number later root lies d.0 d.1 kept_length R marked RLength first AllSame fits lists h is_rows is_root same_degree same_bucket one_less is_marked same_last;
+          sound = drop_sound dist g o at n inside r is_row is_number later root lies d.0 d.1 kept_length R marked RLength first AllSame fits lists h is_rows is_root same_settings one_less is_marked same_last;
           means = means_so ∙ drop_means dist g o at n inside r is_row is_number later root lies d.0 d.1 kept_length R marked RLength first AllSame fits lists;
           tree = ap (tree_of 1025 h.rows.now) is_root ∙ (ap (λ z. tree_of 1025 z root) is_rows ∙ drop_tree dist g o at n inside r is_row is_number later root lies d.0 d.1 kept_length R marked RLength first AllSame fits lists);
-          degree = same_degree;
-          bucket = same_bucket;
+          settings = same_settings;
         }
           where
             means_so : gnat_meaning h ≡ record { capacity = min (length (placed R later)) 1024; last = g.last; standing = samples_at (placed R later) (take (g.standing - 1) (places (placed R later))) }

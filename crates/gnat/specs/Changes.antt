@@ -13,9 +13,8 @@ module _ {E : Type 0} (dist : E → E → ℕ) (g : Gnat E) where
   pub record Rebuilt (h : Gnat E) : Type 0 where
     pub sound : GnatSound dist h
     pub means : gnat_meaning h ≡ gnat_meaning g
-    pub tree : gnat_tree h ≡ rebuilt dist g.degree g.bucket (standing_in g)
-    pub degree : h.degree ≡ g.degree
-    pub bucket : h.bucket ≡ g.bucket
+    pub tree : gnat_tree h ≡ rebuilt dist g.settings.degree g.settings.bucket (standing_in g)
+    pub settings : h.settings ≡ g.settings
     pub standing : h.standing ≡ g.standing
     pub marked : h.marked ≡ 0
     pub last : h.last ≡ g.last
@@ -24,9 +23,8 @@ module _ {E : Type 0} (dist : E → E → ℕ) (g : Gnat E) where
   pub record FiledNew (e : E) (h : Gnat E) : Type 0 where
     pub sound : GnatSound dist h
     pub means : gnat_meaning h ≡ added (gnat_meaning g) e
-    pub tree : gnat_tree h ≡ grown dist g.degree g.bucket (record { number = g.last + 1; element = e }) (gnat_tree g)
-    pub degree : h.degree ≡ g.degree
-    pub bucket : h.bucket ≡ g.bucket
+    pub tree : gnat_tree h ≡ grown dist g.settings.degree g.settings.bucket (record { number = g.last + 1; element = e }) (gnat_tree g)
+    pub settings : h.settings ≡ g.settings
     pub last : h.last ≡ g.last + 1
 
   -- it means the sample n less, out of its leaf or marked
@@ -34,8 +32,7 @@ module _ {E : Type 0} (dist : E → E → ℕ) (g : Gnat E) where
     pub sound : GnatSound dist h
     pub means : gnat_meaning h ≡ dropped (gnat_meaning g) n
     pub tree : gnat_tree h ≡ shrunk n (gnat_tree g)
-    pub degree : h.degree ≡ g.degree
-    pub bucket : h.bucket ≡ g.bucket
+    pub settings : h.settings ≡ g.settings
 
   -- whatever number the sample listed at this place has
   abbrev pub TakesOut : ℕ → Gnat E → Type 0
@@ -45,7 +42,6 @@ module _ {E : Type 0} (dist : E → E → ℕ) (g : Gnat E) where
   pub record Inserted (e : E) (h : Gnat E) : Type 0 where
     pub sound : GnatSound dist h
     pub means : gnat_meaning h ≡ added (gnat_meaning g) e
-    pub tree : gnat_tree h ≡ extended dist g.degree g.bucket (capacity_of g) (standing_in g) (record { number = g.last + 1; element = e }) (gnat_tree g)
-    pub degree : h.degree ≡ g.degree
-    pub bucket : h.bucket ≡ g.bucket
+    pub tree : gnat_tree h ≡ extended dist g.settings.degree g.settings.bucket (capacity_of g) (standing_in g) (record { number = g.last + 1; element = e }) (gnat_tree g)
+    pub settings : h.settings ≡ g.settings
     pub last : h.last ≡ g.last + 1

@@ -2,7 +2,7 @@
 use Rattle.std.specs.Prelude.{ℕ, Bool, cond, ◌||◌, [], ◌∷◌, Ok, Err, Result, nat_lt}
 use Rattle.index.specs.declared.refusal.Refusal.{Refusal}
 use Rattle.index.specs.Outcomes.{Outcome, gives, refuses, number_of, figures_of}
-use Rattle.gnat.specs.declared.settings.Settings.{Settings}
+use Rattle.gnat_filing.specs.declared.settings.Settings.{Settings}
 
 -- outside the range from low to high
 abbrev pub outside : ℕ → ℕ → ℕ → Bool

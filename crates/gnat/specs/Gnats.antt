@@ -33,10 +33,6 @@ module _ {E : Type 0} where
 
   module _ (dist : E → E → ℕ) where
     pub record GnatSound (g : Gnat E) : Type 0 where
-      pub two : 2 ≤ g.degree
-      pub eight : g.degree ≤ 8
-      pub room : g.degree ≤ g.bucket
-      pub most : g.bucket ≤ 32
       pub last_bound : g.last ≤ 65535
       -- the places list rows in use, each once
       pub in_use : g.standing + g.marked ≤ capacity_of g
@@ -48,7 +44,7 @@ module _ {E : Type 0} where
       pub lies : List ℕ
       pub shows : Shows g.rows.now g.root tree lies
       pub lists : Shuffle ℕ lies (take (g.standing + g.marked) (places g.rows.now))
-      pub files : Files dist g.degree g.bucket (standing_in g) tree
+      pub files : Files dist g.settings.degree g.settings.bucket (standing_in g) tree
       -- its numbers, those of marked samples too, are apart, and none is to come
       pub numbers : Apart (members tree)
       pub given : AllByRecursion (λ s. s.number ≤ g.last) (members tree)
@@ -56,4 +52,4 @@ module _ {E : Type 0} where
     -- Its tree is that of an index with its standing samples: just these stand in it, each once, every range holds the
     -- distances that it speaks of, every sample is under its nearest pivot, and no leaf is too large.
     abbrev pub TreeRight : Gnat E → Type 0
-    TreeRight g = Files dist g.degree g.bucket (standing_in g) (gnat_tree g)
+    TreeRight g = Files dist g.settings.degree g.settings.bucket (standing_in g) (gnat_tree g)

@@ -13,7 +13,7 @@ module _ {E : Type 0} where
   module _ (dist : E → E → ℕ) (g : Gnat E) (e : E) where
     -- with room: rebuilt first if every row is in use, and then with the sample filed; refused: as it was
     abbrev pub tree_with_at : Outcome Unit → Tree E
-    tree_with_at (gives u) = extended dist g.degree g.bucket (capacity_of g) (standing_in g) (next_sample (gnat_meaning g) e) (gnat_tree g)
+    tree_with_at (gives u) = extended dist g.settings.degree g.settings.bucket (capacity_of g) (standing_in g) (next_sample (gnat_meaning g) e) (gnat_tree g)
     tree_with_at (refuses n figures) = gnat_tree g
 
     abbrev pub tree_with : Tree E

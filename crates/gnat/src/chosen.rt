@@ -2,7 +2,7 @@
 ghost use Rattle.std.specs.Prelude.{◌≡◌};
 ghost use Rattle.gnat.specs.Chosen.{told_settings, settings_outcome};
 
-use crate::settings::Settings;
+use gnat_filing::settings::Settings;
 use index::refusal::Refusal;
 
 // A degree of 2 to 8 and a bucket from the degree to 32; else the first value that is outside its

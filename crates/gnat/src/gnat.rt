@@ -1,5 +1,5 @@
 // The GNAT as an index.
-ghost use Rattle.std.specs.Prelude.{◌≡◌, ℕ, ◌+◌, ◌<◌, min, [], length};
+ghost use Rattle.std.specs.Prelude.{◌≡◌, ℕ, ◌+◌, ◌<◌, min, [], length, IfOk, IfErr};
 ghost use Rattle.index.specs.Calls.{add_outcome, add_leaves, drop_outcome, drop_leaves};
 ghost use Rattle.index.specs.Meaning.{fresh};
 ghost use Rattle.index.specs.Outcomes.{told};
@@ -13,9 +13,9 @@ ghost use Rattle.gnat_rows.specs.Rows.{HasRow};
 
 use crate::listing::{enlist, unlist};
 use crate::refile::refile;
-use crate::settings::Settings;
 use gnat_filing::dropping::take_out;
 use gnat_filing::filing::file;
+use gnat_filing::settings::Settings;
 use gnat_order::{find, list_rows};
 use gnat_rows::{EMPTY, Node, Row, element_in, place_in};
 use gnat_search::{Aim, search};
@@ -29,8 +29,7 @@ use metric::Metric;
 pub struct Gnat<'a, E> {
     rows: &'a mut [Row<E>],
     root: Node,
-    degree: u8,
-    bucket: u8,
+    settings: Settings,
     standing: usize,
     marked: usize,
     last: u16,
@@ -42,16 +41,14 @@ impl<'a, E: Metric> Gnat<'a, E> {
         ensures sound { GnatSound E.dist result }
         ensures fresh { gnat_meaning result ≡ fresh (min (length rows.old) 1024) }
         ensures tree { gnat_tree result ≡ leaf [] }
-        ensures degree { result.degree ≡ settings.degree }
-        ensures bucket { result.bucket ≡ settings.bucket }
+        ensures settings { result.settings ≡ settings }
     {
         let capacity = rows.len().min(1024);
         list_rows(rows, capacity as u16);
         Gnat {
             rows,
             root: EMPTY,
-            degree: settings.degree,
-            bucket: settings.bucket,
+            settings,
             standing: 0,
             marked: 0,
             last: 0,
@@ -65,11 +62,12 @@ impl<'a, E: Metric> Gnat<'a, E> {
     }
 
     // Where the sample of this number is listed.
-    fn place_of(&self, number: u16) -> Option<usize>
+    fn place_of(&self, number: u16) -> Result<usize, Refusal>
         requires { GnatSound E.dist self.now }
-        ensures { Listed self.now.rows.now self.now.standing number result }
+        ensures ok { IfOk result (λ at. Listed self.now.rows.now self.now.standing number (Some at)) }
+        ensures err { IfErr result (λ refusal. (refusal ≡ Refusal.NotStanding number) × Listed self.now.rows.now self.now.standing number None) }
     {
-        find(self.rows, self.standing, number)
+        find(self.rows, self.standing, number).ok_or(Refusal::NotStanding(number))
     }
 
     // The row that is listed at `at`.
@@ -86,9 +84,8 @@ impl<'a, E: Metric> Gnat<'a, E> {
         ensures { Rebuilt E.dist self.old self.new }
     {
         let count = self.standing;
-        let degree = self.degree as usize;
-        let bucket = self.bucket as usize;
-        self.root = refile(self.rows, count, degree, bucket);
+        let settings = self.settings;
+        self.root = refile(self.rows, count, settings);
         self.marked = 0;
     }
 
@@ -103,10 +100,9 @@ impl<'a, E: Metric> Gnat<'a, E> {
         let in_use = standing + self.marked;
         let number = self.last + 1;
         let root = self.root;
-        let degree = self.degree as usize;
-        let bucket = self.bucket as usize;
+        let settings = self.settings;
         let at = enlist(self.rows, standing, in_use, number, e);
-        self.root = file(self.rows, root, at, degree, bucket, 1025);
+        self.root = file(self.rows, root, at, settings, 1025);
         self.standing = standing + 1;
         self.last = number;
     }
@@ -139,46 +135,8 @@ impl<'a, E: Metric> Gnat<'a, E> {
         }
         self.file_new(e);
     }
-
-    // The add of the index, with the tree that it leaves: rebuilt first if every row was in use.
-    pub fn add(&mut self, e: E) -> Result<u16, Refusal>
-        requires { GnatSound E.dist self.old }
-        ensures stays { GnatSound E.dist self.new }
-        ensures answer { told result ≡ add_outcome (gnat_meaning self.old) }
-        ensures leaves { gnat_meaning self.new ≡ add_leaves (gnat_meaning self.old) e }
-        ensures tree { gnat_tree self.new ≡ tree_with E.dist self.old e }
-        ensures right { TreeRight E.dist self.new }
-        ensures degree { self.new.degree ≡ self.old.degree }
-        ensures bucket { self.new.bucket ≡ self.old.bucket }
-    {
-        room(self.capacity(), self.standing, self.last)?;
-        self.insert(e);
-        Ok(self.last)
-    }
-
-    // The drop of the index, with the tree that it leaves: a sample in a leaf leaves it, and a pivot is marked.
-    pub fn drop(&mut self, number: u16) -> Result<(), Refusal>
-        requires { GnatSound E.dist self.old }
-        ensures stays { GnatSound E.dist self.new }
-        ensures answer { told result ≡ drop_outcome (gnat_meaning self.old) number }
-        ensures leaves { gnat_meaning self.new ≡ drop_leaves (gnat_meaning self.old) number }
-        ensures tree { gnat_tree self.new ≡ tree_without self.old number }
-        ensures right { TreeRight E.dist self.new }
-        ensures degree { self.new.degree ≡ self.old.degree }
-        ensures bucket { self.new.bucket ≡ self.old.bucket }
-    {
-        match self.place_of(number) {
-            Some(at) => {
-                self.take_away(at);
-                Ok(())
-            }
-            None => Err(Refusal::NotStanding(number)),
-        }
-    }
 }
 
-// The calls of an index. `add` and `drop` are the methods above: where an implementation has a lifetime, the checker
-// takes no promises beyond those of the trait, and these two also promise the tree.
 impl<'a, E: Metric> Index for Gnat<'a, E> {
     type Element = E;
 
@@ -188,19 +146,39 @@ impl<'a, E: Metric> Index for Gnat<'a, E> {
 
     ghost lawful = { gnat_lawful E.dist };
 
-    fn add(&mut self, e: E) -> Result<u16, Refusal> {
-        Gnat::add(self, e)
+    // It also promises the tree that it leaves: rebuilt first if every row was in use.
+    fn add(&mut self, e: E) -> Result<u16, Refusal>
+        requires { GnatSound E.dist self.old }
+        ensures stays { GnatSound E.dist self.new }
+        ensures answer { told result ≡ add_outcome (gnat_meaning self.old) }
+        ensures leaves { gnat_meaning self.new ≡ add_leaves (gnat_meaning self.old) e }
+        ensures tree { gnat_tree self.new ≡ tree_with E.dist self.old e }
+        ensures right { TreeRight E.dist self.new }
+        ensures settings { self.new.settings ≡ self.old.settings }
+    {
+        room(self.capacity(), self.standing, self.last)?;
+        self.insert(e);
+        Ok(self.last)
     }
 
-    fn drop(&mut self, number: u16) -> Result<(), Refusal> {
-        Gnat::drop(self, number)
+    // It also promises the tree that it leaves: a sample in a leaf leaves it, and a pivot is marked.
+    fn drop(&mut self, number: u16) -> Result<(), Refusal>
+        requires { GnatSound E.dist self.old }
+        ensures stays { GnatSound E.dist self.new }
+        ensures answer { told result ≡ drop_outcome (gnat_meaning self.old) number }
+        ensures leaves { gnat_meaning self.new ≡ drop_leaves (gnat_meaning self.old) number }
+        ensures tree { gnat_tree self.new ≡ tree_without self.old number }
+        ensures right { TreeRight E.dist self.new }
+        ensures settings { self.new.settings ≡ self.old.settings }
+    {
+        let at = self.place_of(number)?;
+        self.take_away(at);
+        Ok(())
     }
 
     fn element(&self, number: u16) -> Result<E, Refusal> {
-        match self.place_of(number) {
-            Some(at) => Ok(element_in(self.rows, self.row_at(at) as usize)),
-            None => Err(Refusal::NotStanding(number)),
-        }
+        let at = self.place_of(number)?;
+        Ok(element_in(self.rows, self.row_at(at) as usize))
     }
 
     fn tally(&self) -> (usize, usize, u16) {
@@ -211,7 +189,7 @@ impl<'a, E: Metric> Index for Gnat<'a, E> {
         if k == 0 || k > list.len() {
             return Err(Refusal::HitCount);
         }
-        let found = search(self.rows, &self.root, q, Aim::Nearest, &mut list[0..k]);
+        let found = search(self.rows, &self.root, q, Aim::Nearest, &mut list[..k]);
         Ok(found.found)
     }
 

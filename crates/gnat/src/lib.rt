@@ -5,4 +5,5 @@ pub mod chosen;
 pub mod gnat;
 mod listing;
 mod refile;
-pub mod settings;
+
+pub use gnat_filing::settings;

@@ -1,7 +1,7 @@
 -- What candidates stand for, and the next pivot among them. Assumes nothing.
 use Rattle.std.proofs.Common.{◌≡◌, ℕ, zero, suc, ◌+◌, ◌-◌, ◌<◌, ◌≤◌, min, cond, ◌&&◌, ◌||◌, eqb, ltb, List, [], ◌∷◌, ◌++◌, map, length, get_or, take, sym, refl, ap, ◌∙◌, subst, ⊎_elim, arith}
 use Rattle.std.specs.List.{slice_get}
-use Rattle.std.proofs.lemmas.List.{get_or-take, get_or_default, get_or_append_left, get_or_push, length-take-le, length_push, append_assoc}
+use Rattle.std.proofs.lemmas.List.{get_or_default, get_or_append_left, get_or_push, length_push, append_assoc, take-append-le}
 use Rattle.std.proofs.lemmas.Bool.{le-ltb, eq-eqb, cases_lt}
 use Rattle.hits.specs.Samples.{Sample}
 use Rattle.gnat_theory.specs.Choice.{first_from, first_place, removed}
@@ -11,14 +11,13 @@ use Rattle.gnat_theory.specs.Shuffles.{Shuffle}
 use Rattle.gnat_theory.specs.Shuffles.Shuffle.{nothing, after, swapped, in_turn}
 use Rattle.gnat_theory.proofs.Firsts.{first_below, removed_shuffle}
 use Rattle.gnat_theory.proofs.Shuffling.{same_order, shuffle_behind}
-use Rattle.gnat_rows.specs.declared.Leaf.{Leaf}
 use Rattle.gnat_rows.specs.declared.Row.{Row}
 use Rattle.gnat_rows.specs.Rows.{HasRow}
-use Rattle.gnat_rows.specs.Shows.{sample_in, held, HoldsSamples}
+use Rattle.gnat_rows.specs.Shows.{sample_in, HoldsSamples}
 use Rattle.gnat_rows.proofs.Changes.{same_row, nth_within}
 use Rattle.gnat_rows.proofs.Showing.{holds_append}
 use Rattle.gnat_filing.specs.declared.choosing.Candidate.{Candidate}
-use Rattle.gnat_filing.specs.Choosing.{top, blank, farther_one, rows_of, reach, Candidates, Renewed, CandidateOf, ListsCandidates, TakesNext, Chosen}
+use Rattle.gnat_filing.specs.Choosing.{top, blank, farther_one, rows_of, reach, Candidates, Renewed, CandidateOf, TakesNext, TakesItsNext, Chosen}
 
 pub shuffle_map : {X Y : Type 0} (f : X → Y) (xs ys : List X) → Shuffle X xs ys → Shuffle Y (map f xs) (map f ys)
 shuffle_map f _ _ nothing = nothing
@@ -28,6 +27,24 @@ shuffle_map f _ _ (in_turn xs ys zs s t) = in_turn (map f xs) (map f ys) (map f 
 
 level_test : (a m n : ℕ) → (ltb a a || (eqb a a && ltb m n)) ≡ ltb m n
 level_test a m n = λ i. (le-ltb a a (omega arith)) i || ((eq-eqb a a refl) i && ltb m n)
+
+module _ {E : Type 0} (rows : List (Row E)) where
+  -- these rows are put down as candidates, in order
+  pub record PutDown (is : List ℕ) (cs : List Candidate) : Type 0 where
+    pub long : length cs ≡ length is
+    pub each : (k : ℕ) → k < length is → CandidateOf rows (get_or is k 0) (get_or cs k blank)
+
+  pub put_more : (is : List ℕ) (cs : List Candidate) (i : ℕ) (c : Candidate) → PutDown is cs → CandidateOf rows i c → PutDown (is ++ (i ∷ [])) (cs ++ (c ∷ []))
+  put_more is cs i c p new =
+      record {
+        long = length_push cs c ∙ ap (λ z. z + 1) p.long ∙ sym (length_push is i);
+        each = λ k u.
+            ⊎_elim
+            (λ v. subst (λ z. CandidateOf rows z (get_or (cs ++ (c ∷ [])) k blank)) (sym (get_or_append_left is (i ∷ []) 0 k v)) (subst (CandidateOf rows (get_or is k 0)) (sym (get_or_append_left cs (c ∷ []) blank k (omega (arith, p.long)))) (p.each k v)))
+            (λ v. let e : length is ≡ k = omega (arith, length_push is i) in
+            subst (λ z. CandidateOf rows z (get_or (cs ++ (c ∷ [])) k blank)) (sym (get_or_push is i 0 k e)) (subst (CandidateOf rows i) (sym (get_or_push cs c blank k (p.long ∙ e))) new))
+            (cases_lt k (length is));
+      }
 
 module _ {E : Type 0} (dist : E → E → ℕ) (small : (e f : E) → dist e f ≤ 1048576) (rows : List (Row E)) where
   reach_gap : (p : Sample E) (ps : List (Sample E)) (x : Sample E) → reach dist rows (p ∷ ps) x ≡ gap dist (p ∷ ps) x
@@ -65,10 +82,6 @@ module _ {E : Type 0} (dist : E → E → ℕ) (small : (e f : E) → dist e f �
     cand_within (c ∷ cs) [] k l h = absurd h
     cand_within (c ∷ cs) (x ∷ xs) zero l h = nth_within rows c.row h.0.0 h.0.1
     cand_within (c ∷ cs) (x ∷ xs) (suc k) l h = cand_within cs xs k (omega arith) h.3
-
-    -- the same of the first m
-    pub first_within : (m : ℕ) (cs : List Candidate) (xs : List (Sample E)) (k : ℕ) → k < m → m ≤ length cs → Candidates dist rows ps (take m cs) xs → (get_or cs k blank).row < length rows
-    first_within m cs xs k l b h = subst (λ z. z.row < length rows) (get_or-take m cs k blank l) (cand_within (take m cs) xs k (omega (arith, length-take-le m cs b)) h)
 
     pub cand_holds : (cs : List Candidate) (xs : List (Sample E)) → Candidates dist rows ps cs xs → HoldsSamples rows (rows_of cs) xs
     cand_holds [] [] h = tt
@@ -112,36 +125,29 @@ module _ {E : Type 0} (dist : E → E → ℕ) (small : (e f : E) → dist e f �
         (((h.0.0, ap (slice_get rows) one.row ∙ h.0.1, h.0.2), one.number ∙ h.1, gap', ih.0), (λ i. one.row i ∷ ih.1 i))
 
     -- what taking the next pivot leaves
-    pub takes_next : (m j : ℕ) (cs cs₁ cs₂ : List Candidate) (e : E) (xs : List (Sample E)) (d : Sample E) → 1 ≤ m → m ≤ 33 → length cs ≡ 33 → length cs₁ ≡ 33 → length cs₂ ≡ 33
-        → first_place farther_one (take m cs) ≡ j → j < m → take (m - 1) cs₁ ≡ removed j (take m cs) → HasRow rows (get_or cs j blank).row (λ r. e ≡ r.element)
-        → ((k : ℕ) → k < m - 1 → Renewed dist rows e (get_or cs₁ k blank) (get_or cs₂ k blank))
-        → Candidates dist rows ps (take m cs) xs → TakesNext dist rows m cs cs₂ (get_or cs j blank).row ps xs d
-    takes_next m j cs cs₁ cs₂ e xs d one most l l₁ l₂ first below taken read renews h =
-        let place : j ≡ first_place (farther dist ps) xs = sym first ∙ same_first (take m cs) xs h in
-        let long : length (take m cs) ≡ m = length-take-le m cs (omega arith) in
-        let at_j : get_or (take m cs) j blank ≡ get_or cs j blank = get_or-take m cs j blank below in
-        let p = get_or xs (first_place (farther dist ps) xs) d in
-        let here : HasRow rows (get_or cs j blank).row (λ r. sample_in r ≡ p) =
-        subst (λ z. HasRow rows (get_or cs j blank).row (λ r. sample_in r ≡ get_or xs z d)) place
-        (subst (λ z. HasRow rows z.row (λ r. sample_in r ≡ get_or xs j d)) at_j (cand_at (take m cs) xs j d (omega arith) h)) in
-        let same = same_row rows (get_or cs j blank).row read.0 here.0 read.1 here.1 in
-        let element : e ≡ p.element = read.2 ∙ ap (λ z. z.element) same ∙ ap (λ z. z.element) here.2 in
-        let before : Candidates dist rows ps (take (m - 1) cs₁) (removed (first_place (farther dist ps) xs) xs) =
-        subst (λ z. Candidates dist rows ps z (removed (first_place (farther dist ps) xs) xs)) (sym taken) (subst (λ z. Candidates dist rows ps (removed j (take m cs)) (removed z xs)) place (cand_removed j (take m cs) xs h)) in
-        let long₁ : length (take (m - 1) cs₁) ≡ m - 1 = length-take-le (m - 1) cs₁ (omega arith) in
-        let long₂ : length (take (m - 1) cs₂) ≡ m - 1 = length-take-le (m - 1) cs₂ (omega arith) in
-        let each : (k : ℕ) → k < length (take (m - 1) cs₁) → Renewed dist rows p.element (get_or (take (m - 1) cs₁) k blank) (get_or (take (m - 1) cs₂) k blank) =
-        λ k u.
-        let below : k < m - 1 = omega arith in
-        subst (λ z. Renewed dist rows p.element z (get_or (take (m - 1) cs₂) k blank)) (sym (get_or-take (m - 1) cs₁ k blank below))
-        (subst (λ z. Renewed dist rows p.element (get_or cs₁ k blank) z) (sym (get_or-take (m - 1) cs₂ k blank below))
-        (subst (λ z. Renewed dist rows z (get_or cs₁ k blank) (get_or cs₂ k blank)) element (renews k below))) in
-        let more = cand_renewed p (take (m - 1) cs₁) (take (m - 1) cs₂) (removed (first_place (farther dist ps) xs) xs) (long₁ ∙ sym long₂) each before in
-        let shuffled = shuffle_map (λ c. c.row) (get_or (take m cs) j blank ∷ removed j (take m cs)) (take m cs) (removed_shuffle blank (take m cs) j (omega arith)) in
+    pub takes_next : (j : ℕ) (cs rest cs₂ : List Candidate) (p : Candidate) (e : E) (xs : List (Sample E)) (d : Sample E)
+        → first_place farther_one cs ≡ j → j < length cs → p ≡ get_or cs j p → rest ≡ removed j cs → HasRow rows p.row (λ r. e ≡ r.element)
+        → length cs₂ ≡ length rest → ((k : ℕ) → k < length rest → Renewed dist rows e (get_or rest k blank) (get_or cs₂ k blank))
+        → Candidates dist rows ps cs xs → TakesNext dist rows cs cs₂ p.row ps xs d
+    takes_next j cs rest cs₂ p e xs d first below is taken read long renews h =
+        let place : j ≡ first_place (farther dist ps) xs = sym first ∙ same_first cs xs h in
+        let at_j : get_or cs j blank ≡ p = get_or_default cs j blank p below ∙ sym is in
+        let x = get_or xs (first_place (farther dist ps) xs) d in
+        let here : HasRow rows p.row (λ r. sample_in r ≡ x) =
+        subst (λ z. HasRow rows p.row (λ r. sample_in r ≡ get_or xs z d)) place
+        (subst (λ z. HasRow rows z.row (λ r. sample_in r ≡ get_or xs j d)) at_j (cand_at cs xs j d below h)) in
+        let same = same_row rows p.row read.0 here.0 read.1 here.1 in
+        let element : e ≡ x.element = read.2 ∙ ap (λ z. z.element) same ∙ ap (λ z. z.element) here.2 in
+        let before : Candidates dist rows ps rest (removed (first_place (farther dist ps) xs) xs) =
+        subst (λ z. Candidates dist rows ps z (removed (first_place (farther dist ps) xs) xs)) (sym taken) (subst (λ z. Candidates dist rows ps (removed j cs) (removed z xs)) place (cand_removed j cs xs h)) in
+        let each : (k : ℕ) → k < length rest → Renewed dist rows x.element (get_or rest k blank) (get_or cs₂ k blank) =
+        λ k u. subst (λ z. Renewed dist rows z (get_or rest k blank) (get_or cs₂ k blank)) element (renews k u) in
+        let more = cand_renewed x rest cs₂ (removed (first_place (farther dist ps) xs) xs) (sym long) each before in
+        let shuffled = shuffle_map (λ c. c.row) (get_or cs j blank ∷ removed j cs) cs (removed_shuffle blank cs j below) in
         record {
           pivot = here;
           others = more.0;
-          same_rows = subst (λ z. Shuffle ℕ ((get_or cs j blank).row ∷ z) (rows_of (take m cs))) (sym (more.1 ∙ ap rows_of taken)) (subst (λ z. Shuffle ℕ (z.row ∷ rows_of (removed j (take m cs))) (rows_of (take m cs))) at_j shuffled);
+          same_rows = subst (λ z. Shuffle ℕ (p.row ∷ z) (rows_of cs)) (sym (more.1 ∙ ap rows_of taken)) (subst (λ z. Shuffle ℕ (z.row ∷ rows_of (removed j cs)) (rows_of cs)) at_j shuffled);
         }
 
   chosen_step : (n : ℕ) (ps xs : List (Sample E)) (d : Sample E) → 1 ≤ length xs → chosen dist (suc n) ps xs ≡ chosen dist n (ps ++ (get_or xs (first_place (farther dist ps) xs) d ∷ [])) (removed (first_place (farther dist ps) xs) xs)
@@ -150,49 +156,51 @@ module _ {E : Type 0} (dist : E → E → ℕ) (small : (e f : E) → dist e f �
       let j = first_place (farther dist ps) (x ∷ xs) in
       ap (λ z. chosen dist n (ps ++ (z ∷ [])) (removed j (x ∷ xs))) (get_or_default (x ∷ xs) j x d (first_below (farther dist ps) (x ∷ xs) (omega arith)))
 
-  pub chosen_none : (degree n : ℕ) (cs : List Candidate) (is : List ℕ) (xs : List (Sample E)) → Candidates dist rows [] (take n cs) xs → Chosen dist rows degree 0 n cs cs is xs
-  chosen_none degree n cs is xs h =
-      let back : n ≡ n - 0 = omega arith in
+  pub chosen_none : (degree : ℕ) (cs : List Candidate) (is : List ℕ) (xs : List (Sample E)) → Candidates dist rows [] cs xs → Chosen dist rows degree 0 cs cs is xs
+  chosen_none degree cs is xs h =
       let all : degree - 0 ≡ degree = omega arith in
-      record {
-        pivots = [];
-        rest = xs;
-        holds = tt;
-        others = subst (λ z. Candidates dist rows [] (take z cs) xs) back h;
-        same_choice = ap (λ z. chosen dist z [] xs) all;
-        same_rows = subst (λ z. Shuffle ℕ (rows_of (take z cs)) (rows_of (take n cs))) back (same_order (rows_of (take n cs)));
-      }
+      record { pivots = []; rest = xs; holds = tt; others = h; same_choice = ap (λ z. chosen dist z [] xs) all; same_rows = same_order (rows_of cs) }
 
   -- one more pivot chosen
-  pub chosen_more : (degree c n : ℕ) (cs cs₁ cs₂ : List Candidate) (is : List ℕ) (i : ℕ) (xs : List (Sample E)) → c < degree → degree ≤ n → n ≤ 33 → length cs₁ ≡ 33 → c < length is
-      → Chosen dist rows degree c n cs cs₁ is xs → ((ps ys : List (Sample E)) (d : Sample E) → Candidates dist rows ps (take (n - c) cs₁) ys → TakesNext dist rows (n - c) cs₁ cs₂ i ps ys d)
-      → (is' : List ℕ) → take (c + 1) is' ≡ take c is ++ (i ∷ []) → Chosen dist rows degree (c + 1) n cs cs₂ is' xs
-  chosen_more degree c n cs cs₁ cs₂ is i xs u v w l k h next is' e = go h.rest h.others h.same_choice
+  pub chosen_more : (degree c : ℕ) (cs cs₁ cs₂ : List Candidate) (is : List ℕ) (i : ℕ) (xs : List (Sample E)) → c < degree → 1 ≤ length cs₁
+      → Chosen dist rows degree c cs cs₁ is xs → TakesItsNext dist rows cs₁ cs₂ i
+      → (is' : List ℕ) → take (c + 1) is' ≡ take c is ++ (i ∷ []) → Chosen dist rows degree (c + 1) cs cs₂ is' xs
+  chosen_more degree c cs cs₁ cs₂ is i xs u some h next is' e = go h.rest h.others h.same_choice
     where
-      fewer : n - c - 1 ≡ n - (c + 1)
-      fewer = omega arith
-
-      go : (rest : List (Sample E)) → Candidates dist rows h.pivots (take (n - c) cs₁) rest → chosen dist (degree - c) h.pivots rest ≡ chosen dist degree [] xs → Chosen dist rows degree (c + 1) n cs cs₂ is' xs
-      go [] others same = absurd (omega (arith, cand_length h.pivots (take (n - c) cs₁) [] others, length-take-le (n - c) cs₁ (omega arith)))
+      go : (rest : List (Sample E)) → Candidates dist rows h.pivots cs₁ rest → chosen dist (degree - c) h.pivots rest ≡ chosen dist degree [] xs → Chosen dist rows degree (c + 1) cs cs₂ is' xs
+      go [] others same = absurd (omega (arith, cand_length h.pivots cs₁ [] others))
       go (x ∷ rest) others same =
           let t = next h.pivots (x ∷ rest) x others in
           let p = get_or (x ∷ rest) (first_place (farther dist h.pivots) (x ∷ rest)) x in
           let left = removed (first_place (farther dist h.pivots) (x ∷ rest)) (x ∷ rest) in
           let down : degree - c ≡ suc (degree - (c + 1)) = omega arith in
-          let tail = rows_of (take (n - (c + 1)) cs₂) in
+          let tail = rows_of cs₂ in
           record {
             pivots = h.pivots ++ (p ∷ []);
             rest = left;
             holds = subst (λ z. HoldsSamples rows z (h.pivots ++ (p ∷ []))) (sym e) (holds_append rows (take c is) (i ∷ []) h.pivots (p ∷ []) h.holds (t.pivot.0, t.pivot.1, t.pivot.2, tt));
-            others = subst (λ z. Candidates dist rows (h.pivots ++ (p ∷ [])) (take z cs₂) left) fewer t.others;
+            others = t.others;
             same_choice = sym (chosen_step (degree - (c + 1)) h.pivots (x ∷ rest) x (omega arith)) ∙ ap (λ z. chosen dist z h.pivots (x ∷ rest)) (sym down) ∙ same;
             same_rows =
-                in_turn (take (c + 1) is' ++ tail) (take c is ++ rows_of (take (n - c) cs₁)) (rows_of (take n cs))
-                (subst (λ z. Shuffle ℕ (z ++ tail) (take c is ++ rows_of (take (n - c) cs₁))) (sym e)
-                (subst (λ z. Shuffle ℕ z (take c is ++ rows_of (take (n - c) cs₁))) (sym (append_assoc (take c is) (i ∷ []) tail))
-                (shuffle_behind (take c is) (i ∷ tail) (rows_of (take (n - c) cs₁)) (subst (λ z. Shuffle ℕ (i ∷ rows_of (take z cs₂)) (rows_of (take (n - c) cs₁))) fewer t.same_rows))))
+                in_turn (take (c + 1) is' ++ tail) (take c is ++ rows_of cs₁) (rows_of cs)
+                (subst (λ z. Shuffle ℕ (z ++ tail) (take c is ++ rows_of cs₁)) (sym e)
+                (subst (λ z. Shuffle ℕ z (take c is ++ rows_of cs₁)) (sym (append_assoc (take c is) (i ∷ []) tail))
+                (shuffle_behind (take c is) (i ∷ tail) (rows_of cs₁) t.same_rows)))
                 h.same_rows;
           }
+
+  -- what stands behind the pivots chosen does not matter
+  pub chosen_before : (degree c : ℕ) (cs cs₁ : List Candidate) (is more : List ℕ) (xs : List (Sample E)) → length is ≡ c → Chosen dist rows degree c cs cs₁ is xs → Chosen dist rows degree c cs cs₁ (is ++ more) xs
+  chosen_before degree c cs cs₁ is more xs e h =
+      let same : take c (is ++ more) ≡ take c is = take-append-le c is more (omega arith) in
+      record {
+        pivots = h.pivots;
+        rest = h.rest;
+        holds = subst (λ z. HoldsSamples rows z h.pivots) (sym same) h.holds;
+        others = h.others;
+        same_choice = h.same_choice;
+        same_rows = subst (λ z. Shuffle ℕ (z ++ rows_of cs₁) (rows_of cs)) (sym same) h.same_rows;
+      }
 
   -- rows put down as candidates, before any pivot is chosen
   pub candidates_are : (is : List ℕ) (cs : List Candidate) (xs : List (Sample E)) → length cs ≡ length is → ((k : ℕ) → k < length is → CandidateOf rows (get_or is k 0) (get_or cs k blank)) → HoldsSamples rows is xs → Candidates dist rows [] cs xs × (rows_of cs ≡ is)
@@ -207,17 +215,5 @@ module _ {E : Type 0} (dist : E → E → ℕ) (small : (e f : E) → dist e f �
       let same = same_row rows i one.number.0 h.0 one.number.1 h.1 in
       (((h.0, ap (slice_get rows) one.row ∙ h.1, h.2), one.number.2 ∙ ap (λ z. z.number) same ∙ ap (λ z. z.number) h.2, one.gap, ih.0), (λ k. one.row k ∷ ih.1 k))
 
-  -- a leaf's rows and one more put down as candidates
-  pub leaf_candidates : (l : Leaf) (at : ℕ) (cs : List Candidate) → l.count ≤ 32 → length l.rows ≡ 32 → length cs ≡ 33 → ((k : ℕ) → k < l.count → CandidateOf rows (get_or l.rows k 0) (get_or cs k blank)) → CandidateOf rows at (get_or cs l.count blank) → ListsCandidates dist rows l at cs
-  leaf_candidates l at cs most l32 c33 each last xs h =
-      let n = l.count + 1 in
-      let is = held l ++ (at ∷ []) in
-      let size : length (held l) ≡ l.count = length-take-le l.count l.rows (omega arith) in
-      let size' : length is ≡ n = length_push (held l) at ∙ ap (λ z. z + 1) size in
-      let long : length (take n cs) ≡ n = length-take-le n cs (omega arith) in
-      candidates_are is (take n cs) xs (long ∙ sym size')
-      (λ k u. let below : k < n = omega arith in subst (CandidateOf rows (get_or is k 0)) (sym (get_or-take n cs k blank below))
-      (⊎_elim
-      (λ v. subst (λ z. CandidateOf rows z (get_or cs k blank)) (sym (get_or_append_left (held l) (at ∷ []) 0 k (omega arith) ∙ get_or-take l.count l.rows k 0 v)) (each k v))
-      (λ v. let e : l.count ≡ k = omega arith in subst (λ z. CandidateOf rows (get_or is z 0) (get_or cs z blank)) e (subst (λ z. CandidateOf rows z (get_or cs l.count blank)) (sym (get_or_push (held l) at 0 l.count size)) last))
-      (cases_lt k l.count))) h
+  pub put_down : (is : List ℕ) (cs : List Candidate) → PutDown rows is cs → (xs : List (Sample E)) → HoldsSamples rows is xs → Candidates dist rows [] cs xs × (rows_of cs ≡ is)
+  put_down is cs p xs h = candidates_are is cs xs p.long p.each h

@@ -1,5 +1,5 @@
 -- Choosing the pivots of a split.
-use Rattle.std.specs.Prelude.{◌≡◌, ℕ, ◌+◌, ◌-◌, min, Bool, ◌&&◌, ◌||◌, List, [], ◌∷◌, ◌++◌, map, take, ◌==◌, nat_lt, slice_index_or}
+use Rattle.std.specs.Prelude.{◌≡◌, ℕ, ◌-◌, min, Bool, ◌&&◌, ◌||◌, List, [], ◌∷◌, ◌++◌, map, take, ◌==◌, nat_lt, slice_index_or}
 use Rattle.hits.specs.Samples.{Sample}
 use Rattle.gnat_theory.specs.Choice.{first_place, removed}
 use Rattle.gnat_theory.specs.Filing.{distances}
@@ -25,10 +25,6 @@ farther_one c d = nat_lt d.gap c.gap || (d.gap == c.gap && nat_lt c.number d.num
 abbrev pub rows_of : List Candidate → List ℕ
 rows_of cs = map (λ c. c.row) cs
 
--- all but the one at j, in their order, of the first m
-abbrev pub without_one : ℕ → ℕ → List Candidate → List Candidate
-without_one j m cs = removed j (take m cs)
-
 -- the row i put down as a candidate, before any pivot is chosen
 pub record CandidateOf {E : Type 0} (rows : List (Row E)) (i : ℕ) (c : Candidate) : Type 0 where
   pub row : c.row ≡ i
@@ -53,33 +49,33 @@ module _ {E : Type 0} (dist : E → E → ℕ) (rows : List (Row E)) where
     pub number : c'.number ≡ c.number
     pub gap : HasRow rows c.row (λ r. c'.gap ≡ min c.gap (dist e r.element))
 
-  abbrev pub SomeCandidates : ℕ → List Candidate → Type 0
-  SomeCandidates m cs = (ps : List (Sample E)) × (xs : List (Sample E)) × Candidates ps (take m cs) xs
+  abbrev pub SomeCandidates : List Candidate → Type 0
+  SomeCandidates cs = (ps : List (Sample E)) × (xs : List (Sample E)) × Candidates ps cs xs
 
-  -- the next pivot of m candidates is taken, and the others are the next candidates
-  pub record TakesNext (m : ℕ) (cs cs' : List Candidate) (i : ℕ) (ps xs : List (Sample E)) (d : Sample E) : Type 0 where
+  -- the next pivot of the candidates is taken, and the others are the next candidates
+  pub record TakesNext (cs cs' : List Candidate) (i : ℕ) (ps xs : List (Sample E)) (d : Sample E) : Type 0 where
     pub pivot : HasRow rows i (λ r. sample_in r ≡ slice_index_or xs (first_place (farther dist ps) xs) d)
-    pub others : Candidates (ps ++ (slice_index_or xs (first_place (farther dist ps) xs) d ∷ [])) (take (m - 1) cs') (removed (first_place (farther dist ps) xs) xs)
-    pub same_rows : Shuffle ℕ (i ∷ rows_of (take (m - 1) cs')) (rows_of (take m cs))
+    pub others : Candidates (ps ++ (slice_index_or xs (first_place (farther dist ps) xs) d ∷ [])) cs' (removed (first_place (farther dist ps) xs) xs)
+    pub same_rows : Shuffle ℕ (i ∷ rows_of cs') (rows_of cs)
 
-  abbrev pub TakesItsNext : ℕ → List Candidate → List Candidate → ℕ → Type 0
-  TakesItsNext m cs cs' i = (ps xs : List (Sample E)) (d : Sample E) → Candidates ps (take m cs) xs → TakesNext m cs cs' i ps xs d
+  abbrev pub TakesItsNext : List Candidate → List Candidate → ℕ → Type 0
+  TakesItsNext cs cs' i = (ps xs : List (Sample E)) (d : Sample E) → Candidates ps cs xs → TakesNext cs cs' i ps xs d
 
-  abbrev pub FirstCandidates : ℕ → List Candidate → Type 0
-  FirstCandidates n cs = (xs : List (Sample E)) × Candidates [] (take n cs) xs
+  abbrev pub FirstCandidates : List Candidate → Type 0
+  FirstCandidates cs = (xs : List (Sample E)) × Candidates [] cs xs
 
-  -- c of n candidates are chosen as pivots
-  pub record Chosen (degree c n : ℕ) (cs cs' : List Candidate) (is : List ℕ) (xs : List (Sample E)) : Type 0 where
+  -- c of the candidates are chosen as pivots
+  pub record Chosen (degree c : ℕ) (cs cs' : List Candidate) (is : List ℕ) (xs : List (Sample E)) : Type 0 where
     pub pivots : List (Sample E)
     pub rest : List (Sample E)
     pub holds : HoldsSamples rows (take c is) pivots
-    pub others : Candidates pivots (take (n - c) cs') rest
+    pub others : Candidates pivots cs' rest
     pub same_choice : chosen dist (degree - c) pivots rest ≡ chosen dist degree [] xs
-    pub same_rows : Shuffle ℕ (take c is ++ rows_of (take (n - c) cs')) (rows_of (take n cs))
+    pub same_rows : Shuffle ℕ (take c is ++ rows_of cs') (rows_of cs)
 
-  abbrev pub ChoosesFirst : ℕ → ℕ → ℕ → List Candidate → List Candidate → List ℕ → Type 0
-  ChoosesFirst degree c n cs cs' is = (xs : List (Sample E)) → Candidates [] (take n cs) xs → Chosen degree c n cs cs' is xs
+  abbrev pub ChoosesFirst : ℕ → ℕ → List Candidate → List Candidate → List ℕ → Type 0
+  ChoosesFirst degree c cs cs' is = (xs : List (Sample E)) → Candidates [] cs xs → Chosen degree c cs cs' is xs
 
   -- the rows of a leaf and the row `at`, put down as candidates
   abbrev pub ListsCandidates : Leaf → ℕ → List Candidate → Type 0
-  ListsCandidates l at cs = (xs : List (Sample E)) → HoldsSamples rows (held l ++ (at ∷ [])) xs → Candidates [] (take (l.count + 1) cs) xs × (rows_of (take (l.count + 1) cs) ≡ held l ++ (at ∷ []))
+  ListsCandidates l at cs = (xs : List (Sample E)) → HoldsSamples rows (held l ++ (at ∷ [])) xs → Candidates [] cs xs × (rows_of cs ≡ held l ++ (at ∷ []))

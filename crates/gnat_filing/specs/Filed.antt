@@ -14,13 +14,6 @@ use Rattle.gnat_rows.specs.declared.Row.{Row}
 use Rattle.gnat_rows.specs.Shows.{sample_in, held, HoldsSamples, Shows}
 use Rattle.gnat_rows.specs.Lying.{Distinct, OnlyIn}
 
--- a degree of 2 to 8, and a bucket from the degree to 32
-pub record Settings (degree bucket : ℕ) : Type 0 where
-  pub two : 2 ≤ degree
-  pub eight : degree ≤ 8
-  pub room : degree ≤ bucket
-  pub most : bucket ≤ 32
-
 module _ {E : Type 0} where
   -- how many branches deep a tree is
   abbrev mutual

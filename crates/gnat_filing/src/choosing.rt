@@ -1,13 +1,15 @@
 // Choosing the pivots of a split.
-ghost use Rattle.std.specs.Prelude.{◌≡◌, ℕ, ◌-◌, ◌<◌, ◌≤◌, length, get_or, take, slice_index, slice_index_or};
-ghost use Rattle.gnat_theory.specs.Choice.{first_place};
-ghost use Rattle.gnat_filing.specs.Choosing.{farther_one, without_one, blank, CandidateOf, ListsCandidates, Renewed, SomeCandidates, TakesItsNext, FirstCandidates, ChoosesFirst};
+ghost use Rattle.std.specs.Prelude.{◌≡◌, ℕ, ◌+◌, ◌<◌, ◌≤◌, length, slice_index, slice_index_or};
+ghost use Rattle.gnat_theory.specs.Choice.{first_place as first_place_of};
+ghost use Rattle.gnat_filing.specs.Choosing.{farther_one, blank, CandidateOf, ListsCandidates, Renewed, SomeCandidates, TakesItsNext, FirstCandidates, ChoosesFirst};
 
+use crate::first::first_place;
+use arrayvec::ArrayVec;
 use gnat_rows::{Leaf, Row, element_in, number_in};
 use metric::Metric;
 
 // A row that may become a pivot: its sample's number, and the distance to its nearest pivot so far.
-#[derive(Clone, Copy)]
+#[derive(Clone, Copy, Default)]
 pub struct Candidate {
     pub row: u16,
     pub number: u16,
@@ -27,15 +29,16 @@ fn candidate_of<E: Metric>(rows: &[Row<E>], row: u16) -> Candidate
 }
 
 // The rows of a leaf and then the row `at`.
-pub fn candidates<E: Metric>(rows: &[Row<E>], l: &Leaf, at: u16) -> [Candidate; 33]
+pub fn candidates<E: Metric>(rows: &[Row<E>], l: &Leaf, at: u16) -> ArrayVec<Candidate, 33>
     requires count { l.now.count ≤ 32 }
     requires within { (((k : ℕ) → k < l.now.count → slice_index l.now.rows k < length rows.now)) × (at < length rows.now) }
-    ensures { ListsCandidates E.dist rows.now l.now at result }
+    ensures { ListsCandidates E.dist rows.now l.now at result.items }
 {
-    let mut cs = [candidate_of(rows, at); 33];
-    for i in 0..l.count as usize {
-        cs[i] = candidate_of(rows, l.rows[i]);
+    let mut cs = ArrayVec::new();
+    for row in &l.rows[..l.count as usize] {
+        cs.push(candidate_of(rows, *row));
     }
+    cs.push(candidate_of(rows, at));
     cs
 }
 
@@ -46,28 +49,13 @@ fn is_farther(c: Candidate, d: Candidate) -> bool
     c.gap > d.gap || c.gap == d.gap && c.number < d.number
 }
 
-// The place of the next pivot among the first m.
-fn farthest(cs: &[Candidate; 33], m: usize) -> usize
-    requires { (1 ≤ m) × (m ≤ 33) }
-    ensures below { result < m }
-    ensures first { first_place farther_one (take m cs.now) ≡ result }
+// The place of the next pivot.
+fn farthest(cs: &[Candidate]) -> usize
+    requires { 1 ≤ length cs.now }
+    ensures below { result < length cs.now }
+    ensures first { first_place_of farther_one cs.now ≡ result }
 {
-    let mut j = 0;
-    for i in 1..m {
-        if is_farther(cs[i], cs[j]) {
-            j = i;
-        }
-    }
-    j
-}
-
-// Takes one of the first m out, and moves those behind it one place down.
-fn take_away(cs: &mut [Candidate; 33], j: usize, m: usize)
-    requires { (j < m) × (m ≤ 33) }
-    ensures long { (length cs.old ≡ 33) × (length cs.new ≡ 33) }
-    ensures rest { take (m - 1) cs.new ≡ without_one j m cs.old }
-{
-    cs[j..m].rotate_left(1);
+    first_place(cs, |c, d| is_farther(c, d))
 }
 
 // The distance to a pivot counts in.
@@ -83,45 +71,42 @@ fn renewed<E: Metric>(rows: &[Row<E>], c: Candidate, pivot: &E) -> Candidate
     }
 }
 
-fn renew<E: Metric>(rows: &[Row<E>], cs: &mut [Candidate; 33], m: usize, pivot: &E)
-    requires { (m ≤ 33) × (((k : ℕ) → k < m → (get_or cs.old k blank).row < length rows.now)) }
-    ensures long { (length cs.old ≡ 33) × (length cs.new ≡ 33) }
-    ensures each { (k : ℕ) → k < m → Renewed E.dist rows.now pivot.now (slice_index_or cs.old k blank) (slice_index_or cs.new k blank) }
+fn renew<E: Metric>(rows: &[Row<E>], cs: &mut [Candidate], pivot: &E)
+    requires { (k : ℕ) → k < length cs.old → (slice_index_or cs.old k blank).row < length rows.now }
+    ensures { (k : ℕ) → k < length cs.old → Renewed E.dist rows.now pivot.now (slice_index_or cs.old k blank) (slice_index_or cs.new k blank) }
 {
-    for i in 0..m {
-        cs[i] = renewed(rows, cs[i], pivot);
+    for c in cs.iter_mut() {
+        *c = renewed(rows, *c, pivot);
     }
 }
 
-// Takes the next pivot out of the first m candidates, and returns its row.
-fn next_pivot<E: Metric>(rows: &[Row<E>], cs: &mut [Candidate; 33], m: usize) -> u16
-    requires count { (1 ≤ m) × (m ≤ 33) }
-    requires candidates { SomeCandidates E.dist rows.now m cs.old }
-    ensures { TakesItsNext E.dist rows.now m cs.old cs.new result }
+// Takes the next pivot out of the candidates, and returns its row.
+fn next_pivot<E: Metric>(rows: &[Row<E>], cs: &mut ArrayVec<Candidate, 33>) -> u16
+    requires some { 1 ≤ length cs.old.items }
+    requires candidates { SomeCandidates E.dist rows.now cs.old.items }
+    ensures one { length cs.new.items + 1 ≡ length cs.old.items }
+    ensures next { TakesItsNext E.dist rows.now cs.old.items cs.new.items result }
 {
-    let j = farthest(cs, m);
-    let pivot = cs[j].row;
-    take_away(cs, j, m);
-    let element = element_in(rows, pivot as usize);
-    renew(rows, cs, m - 1, &element);
-    pivot
+    let pivot = cs.remove(farthest(cs.as_slice()));
+    let element = element_in(rows, pivot.row as usize);
+    renew(rows, cs.as_mut_slice(), &element);
+    pivot.row
 }
 
-// Chooses the rows of the pivots out of n candidates; the others stay, in their order.
+// Chooses the rows of the pivots out of the candidates; the others stay, in their order.
 pub fn choose<E: Metric>(
     rows: &[Row<E>],
-    cs: &mut [Candidate; 33],
-    n: usize,
+    cs: &mut ArrayVec<Candidate, 33>,
     degree: usize,
 ) -> [u16; 8]
-    requires count { (degree ≤ 8) × ((degree ≤ n) × (n ≤ 33)) }
-    requires candidates { FirstCandidates E.dist rows.now n cs.old }
+    requires count { (degree ≤ 8) × (degree ≤ length cs.old.items) }
+    requires candidates { FirstCandidates E.dist rows.now cs.old.items }
     ensures eight { length result ≡ 8 }
-    ensures chosen { ChoosesFirst E.dist rows.now degree degree n cs.old cs.new result }
+    ensures chosen { ChoosesFirst E.dist rows.now degree degree cs.old.items cs.new.items result }
 {
     let mut pivots = [0u16; 8];
-    for c in 0..degree {
-        pivots[c] = next_pivot(rows, cs, n - c);
+    for pivot in pivots[..degree].iter_mut() {
+        *pivot = next_pivot(rows, cs);
     }
     pivots
 }

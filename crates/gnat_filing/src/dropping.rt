@@ -2,11 +2,13 @@
 ghost use Rattle.std.specs.Prelude.{◌≤◌};
 ghost use Rattle.gnat_filing.specs.Dropping.{Shortened, IsPivot, SomeDroppable, DropsFrom};
 
+use crate::splitting::pushed;
 use crate::widening::{closest, measured};
 use gnat_rows::{Branch, Leaf, Node, Row, element_in, node_in, put_marked, put_node};
 use metric::Metric;
 
-// What a node becomes, and whether the row is free.
+// What a node becomes, and whether the row is free. Both come of every drop, so an enum of the two cases would hold the
+// node in each.
 #[derive(Clone, Copy)]
 pub struct Dropped {
     pub node: Node,
@@ -22,10 +24,9 @@ fn shortened(l: Leaf, at: u16) -> Leaf
         count: 0,
         rows: [0; 32],
     };
-    for i in 0..l.count as usize {
-        if l.rows[i] != at {
-            rest.rows[rest.count as usize] = l.rows[i];
-            rest.count += 1;
+    for row in &l.rows[..l.count as usize] {
+        if *row != at {
+            rest = pushed(rest, *row);
         }
     }
     rest
@@ -36,12 +37,7 @@ fn is_pivot(b: &Branch, at: u16) -> bool
     requires { b.now.count ≤ 8 }
     ensures { IsPivot b.now at result }
 {
-    for i in 0..b.count as usize {
-        if b.pivots[i] == at {
-            return true;
-        }
-    }
-    false
+    b.pivots[..b.count as usize].contains(&at)
 }
 
 // Drops the sample of the row `at` from below a node: it leaves its leaf, or is marked where it is a
@@ -65,7 +61,7 @@ pub fn take_out<E: Metric>(rows: &mut [Row<E>], node: Node, at: u16, left: usize
             }
             let element = element_in(rows, at as usize);
             let ds = measured(rows, &b, &element);
-            let j = closest(&ds, b.count as usize);
+            let j = closest(&ds[..b.count as usize]);
             let pivot = b.pivots[j] as usize;
             let child = node_in(rows, pivot);
             let dropped = take_out(rows, child, at, left - 1);

@@ -4,5 +4,7 @@
 pub mod choosing;
 pub mod dropping;
 pub mod filing;
+mod first;
+pub mod settings;
 pub mod splitting;
 pub mod widening;

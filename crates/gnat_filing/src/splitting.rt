@@ -1,5 +1,5 @@
 // Splitting a leaf that has become too large.
-ghost use Rattle.std.specs.Prelude.{◌≡◌, ℕ, ◌+◌, ◌-◌, ◌<◌, ◌≤◌, length, take, slice_index};
+ghost use Rattle.std.specs.Prelude.{◌≡◌, ℕ, ◌+◌, ◌<◌, ◌≤◌, length, slice_index};
 ghost use Rattle.gnat_theory.specs.Splitting.{split as split_of};
 ghost use Rattle.gnat_rows.specs.declared.Leaf.{Leaf as LeafRecord};
 ghost use Rattle.gnat_rows.specs.declared.Node.TheVariants.{Leaf as leaf_node};
@@ -36,14 +36,13 @@ fn lengthened(node: Node, at: u16) -> Node
 }
 
 // The rows of the pivots are unmarked, each over an empty leaf.
-fn clear<E: Metric>(rows: &mut [Row<E>], pivots: &[u16; 8], degree: usize)
-    requires { (degree ≤ 8) × (((k : ℕ) → k < degree → slice_index pivots.now k < length rows.old)) }
-    ensures { Clears rows.old rows.new pivots.now degree }
+fn clear<E: Metric>(rows: &mut [Row<E>], pivots: &[u16])
+    requires { (k : ℕ) → k < length pivots.now → slice_index pivots.now k < length rows.old }
+    ensures { Clears rows.old rows.new pivots.now (length pivots.now) }
 {
-    for j in 0..degree {
-        let pivot = pivots[j] as usize;
-        put_node(rows, pivot, EMPTY);
-        put_marked(rows, pivot, false);
+    for pivot in pivots {
+        put_node(rows, *pivot as usize, EMPTY);
+        put_marked(rows, *pivot as usize, false);
     }
 }
 
@@ -58,8 +57,8 @@ fn bare<E: Metric>(rows: &[Row<E>], pivots: [u16; 8], degree: usize) -> Branch
         low: [[0; 8]; 8],
         high: [[0; 8]; 8],
     };
-    for j in 0..degree {
-        let element = element_in(rows, pivots[j] as usize);
+    for (j, pivot) in pivots[..degree].iter().enumerate() {
+        let element = element_in(rows, *pivot as usize);
         let ds = measured(rows, &b, &element);
         b.low[j] = ds;
         b.high[j] = ds;
@@ -79,13 +78,13 @@ fn file_below<E: Metric>(rows: &mut [Row<E>], b: &mut Branch, at: u16)
     put_node(rows, pivot, lengthened(child, at));
 }
 
-// Files the samples of the first m rows, in order.
-fn fill<E: Metric>(rows: &mut [Row<E>], b: &mut Branch, cs: &[Candidate; 33], m: usize)
-    requires { (m ≤ 33) × (SomeFillable rows.old b.old (rows_of (take m cs.now))) }
-    ensures { Fills E.dist m rows.old rows.new b.old b.new (rows_of (take m cs.now)) }
+// Files the samples of these rows, in order.
+fn fill<E: Metric>(rows: &mut [Row<E>], b: &mut Branch, cs: &[Candidate])
+    requires { SomeFillable rows.old b.old (rows_of cs.now) }
+    ensures { Fills E.dist (length cs.now) rows.old rows.new b.old b.new (rows_of cs.now) }
 {
-    for i in 0..m {
-        file_below(rows, b, cs[i].row);
+    for c in cs {
+        file_below(rows, b, c.row);
     }
 }
 
@@ -96,10 +95,9 @@ pub fn split<E: Metric>(rows: &mut [Row<E>], l: Leaf, at: u16, degree: usize) ->
     ensures { Becomes (split_of E.dist degree) 32 rows.old rows.new l result at }
 {
     let mut cs = candidates(rows, &l, at);
-    let n = l.count as usize + 1;
-    let pivots = choose(rows, &mut cs, n, degree);
-    clear(rows, &pivots, degree);
+    let pivots = choose(rows, &mut cs, degree);
+    clear(rows, &pivots[..degree]);
     let mut b = bare(rows, pivots, degree);
-    fill(rows, &mut b, &cs, n - degree);
+    fill(rows, &mut b, cs.as_slice());
     Node::Branch(b)
 }

@@ -46,6 +46,13 @@ module _ {E : Type 0} where
   pub put_next : (rows was new : List (Row E)) (ps : List ℕ) (i p : ℕ) → length ps ≡ length rows → was ≡ placed ps rows → new ≡ with_place i p was → new ≡ placed (set ps i p) rows
   put_next rows was new ps i p l e f = f ∙ (ap (with_place i p) e ∙ placed_again ps rows i p l)
 
+module _ {E : Type 0} where
+  -- the rows behind the first n, which alone are listed by their own numbers, stay
+  pub counted_front : (a n : ℕ) (rows : List (Row E)) → placed (counted_from a n (places (take n rows))) (take n rows) ++ drop n rows ≡ placed (counted_from a n (places rows)) rows
+  counted_front a zero rows = sym (placed_own rows)
+  counted_front a (suc n) [] = refl
+  counted_front a (suc n) (r ∷ rs) = ap (λ z. at_place a r ∷ z) (counted_front (suc a) n rs)
+
 -- one more row listed by its own number
 pub counted_more : (a n : ℕ) (ps : List ℕ) → n < length ps → set (counted_from a n ps) n (a + n) ≡ counted_from a (suc n) ps
 counted_more a n [] l = absurd (omega arith)

@@ -16,8 +16,8 @@ pub fn list_rows<E: Metric>(rows: &mut [Row<E>], count: u16)
     requires { count ≤ length rows.old }
     ensures { rows.new ≡ placed (counted count (places rows.old)) rows.old }
 {
-    for i in 0..count {
-        put_place(rows, i as usize, i);
+    for (i, row) in rows[..count as usize].iter_mut().enumerate() {
+        row.place = i as u16;
     }
 }
 
@@ -30,7 +30,8 @@ fn number_at<E: Metric>(rows: &[Row<E>], at: usize) -> u16
     number_in(rows, row as usize)
 }
 
-// Where the sample of this number is listed among the first `standing`, whose numbers rise.
+// Where the sample of this number is listed among the first `standing`, whose numbers rise. The library's search may ask
+// its key of any row, and here only a row that is listed leads to a number: so it is halved by hand.
 pub fn find<E: Metric>(rows: &[Row<E>], standing: usize, number: u16) -> Option<usize>
     requires fits { standing ≤ length rows.now }
     requires within { Within (take standing (places rows.now)) (length rows.now) }
@@ -71,6 +72,7 @@ pub fn move_behind<E: Metric>(rows: &mut [Row<E>], at: usize, count: usize)
     ensures { rows.new ≡ placed (behind at count (places rows.old)) rows.old }
 {
     let moved = place_in(rows, at);
+    // By place: no iterator lends two neighbours of which one is written.
     for i in at..count - 1 {
         let next = place_in(rows, i + 1);
         put_place(rows, i, next);

@@ -1,5 +1,6 @@
 // The rows of a GNAT: each has a place for one sample, and for the node below it where the sample is
-// a pivot. Small functions read and write one field of one row.
+// a pivot. Small functions read and write one field of one row: each gives its caller the fact of that row in the words of
+// the definitions, which a field read in place does not.
 #![tactic(auto)]
 
 ghost use Rattle.std.specs.Prelude.{◌≡◌, ◌<◌, length};
@@ -106,8 +107,7 @@ pub fn put_sample<E: Metric>(rows: &mut [Row<E>], at: usize, number: u16, elemen
         element,
         number,
         marked: false,
-        place: old.place,
-        node: old.node,
+        ..old
     };
 }
 

@@ -3,4 +3,4 @@ use Rattle.gnat_order.specs.Order.{places, placed, counted}
 use Rattle.gnat_order.proofs.list_rows.Given as goal
 
 abbrev pub invariant-loop-i : goal.invariant-loop-i
-invariant-loop-i g l = l.rows ≡ placed (counted l.i (places l.initial.rows)) l.initial.rows
+invariant-loop-i g l = l.row-items ≡ placed (counted l.i (places l.initial.row-items)) l.initial.row-items

@@ -1,29 +1,42 @@
-use Rattle.std.proofs.Common.{◌≡◌, ◌<◌, ◌≢◌, length, get_or, sym, refl, ◌∙◌, subst, arith, length-set, get_or-set_other, get_or-set_same, rules, below_more}
-use Rattle.std.proofs.lemmas.List.{get_or-replicate}
-use Rattle.gnat_filing.specs.Choosing.{blank, CandidateOf}
-use Rattle.gnat_filing.proofs.Candidates.{leaf_candidates}
+use Rattle.std.proofs.Common.{◌≡◌, ◌+◌, ◌<◌, [], ◌∷◌, ◌++◌, length, get_or, take, sym, subst, arith, rules}
+use Rattle.std.proofs.lemmas.List.{get_or-take, length-take, length-take-le, take_more}
+use Rattle.gnat_filing.specs.Choosing.{CandidateOf}
+use Rattle.gnat_filing.proofs.Candidates.{PutDown, put_more, put_down}
 use Rattle.gnat_filing.proofs.choosing.candidates.Goals as goal
+
+pub push-requires : goal.push-requires
+push-requires g c =
+    let l = c.args.l.now in
+    omega (arith, c.loop-row.invariant.long, length-take c.loop-row.row-index l.rows, c.loop-row-test.true, length-take l.count l.rows, c.requires.count)
+
+pub push-requires-2 : goal.push-requires-2
+push-requires-2 g c =
+    let l = c.args.l.now in
+    omega (arith, c.loop-row.invariant.long, length-take c.loop-row.row-index l.rows, c.loop-row.auto.row-index-end, length-take l.count l.rows, c.requires.count)
+
+pub loop-row-init : goal.loop-row-init
+loop-row-init g c = subst (PutDown c.args.rows.now []) (sym c.new-cs.ensures) (record { long = search rules; each = λ k u. absurd (omega arith) })
+
+pub loop-row-preserved : goal.loop-row-preserved
+loop-row-preserved g c =
+    let l = c.args.l.now in
+    let i = c.loop-row.row-index in
+    let rows = c.args.rows.now in
+    let below : i < l.count = omega (arith, c.loop-row-test.true, length-take l.count l.rows) in
+    let inside : i < length l.rows = omega (arith, c.loop-row-test.true, length-take l.count l.rows) in
+    let new : CandidateOf rows (get_or l.rows i 0) c.candidate_of.result = subst (λ z. CandidateOf rows z c.candidate_of.result) (get_or-take l.count l.rows i 0 below) c.candidate_of.ensures in
+    subst (PutDown rows (take (i + 1) l.rows)) (sym c.push.ensures.items)
+    (subst (λ z. PutDown rows z (c.loop-row.cs.items ++ (c.candidate_of.result ∷ []))) (sym (take_more l.rows i 0 inside)) (put_more rows (take i l.rows) c.loop-row.cs.items (get_or l.rows i 0) c.candidate_of.result c.loop-row.invariant new))
 
 pub returns : goal.returns
 returns g c =
     let laws = g.E.Metric.laws in
     let l = c.args.l.now in
-    let end : l.count ≡ c.loop-i.i = omega arith in
-    leaf_candidates g.E.Metric.dist (λ e f. omega (arith, laws.bounded e f, laws.small)) c.args.rows.now l c.args.at c.loop-i.cs c.requires.count (search rules) c.loop-i.invariant.0 (λ k u. c.loop-i.invariant.1 k (omega arith)) (c.loop-i.invariant.2 l.count (omega arith) (omega arith))
-
-pub loop-i-init : goal.loop-i-init
-loop-i-init g c = (refl, (λ k l. absurd (omega arith)), λ k u v. subst (CandidateOf c.args.rows.now c.args.at) (sym (get_or-replicate 33 k c.candidate_of-cs.result blank v)) c.candidate_of-cs.ensures)
-
-pub loop-i-preserved : goal.loop-i-preserved
-loop-i-preserved g c =
-    let cs = c.loop-i.cs in
-    let i = c.loop-i.i in
-    let v = c.candidate_of.result in
+    let i = c.loop-row.row-index in
     let rows = c.args.rows.now in
-    let lt : i < length cs = omega (arith, c.loop-i.invariant.0, c.requires.count) in (
-      length-set cs i v ∙ c.loop-i.invariant.0,
-      below_more _ _
-          (λ k h. let ne : k ≢ i = omega arith in subst (CandidateOf rows (get_or c.args.l.now.rows k 0)) (sym (get_or-set_other cs i k v blank ne)) (c.loop-i.invariant.1 k h))
-          (subst (CandidateOf rows (get_or c.args.l.now.rows i 0)) (sym (get_or-set_same cs i v blank lt)) c.candidate_of.ensures),
-      (λ k h u. let ne : k ≢ i = omega arith in subst (CandidateOf rows c.args.at) (sym (get_or-set_other cs i k v blank ne)) (c.loop-i.invariant.2 k (omega arith) u)),
-    )
+    let long : length l.rows ≡ 32 = search rules in
+    let whole : length (take l.count l.rows) ≡ l.count = length-take-le l.count l.rows (omega (arith, c.requires.count)) in
+    let end : i ≡ l.count = omega (arith, whole, c.loop-row-test.false, c.loop-row.auto.row-index-end) in
+    let put = put_more rows (take i l.rows) c.loop-row.cs.items c.args.at c.candidate_of-2.result c.loop-row.invariant c.candidate_of-2.ensures in
+    put_down g.E.Metric.dist (λ e f. omega (arith, laws.bounded e f, laws.small)) rows (take l.count l.rows ++ (c.args.at ∷ [])) c.push-2.new.self.items
+    (subst (PutDown rows (take l.count l.rows ++ (c.args.at ∷ []))) (sym c.push-2.ensures.items) (subst (λ z. PutDown rows (take z l.rows ++ (c.args.at ∷ [])) (c.loop-row.cs.items ++ (c.candidate_of-2.result ∷ []))) end put))

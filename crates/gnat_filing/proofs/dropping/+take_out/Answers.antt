@@ -1,4 +1,5 @@
 use Rattle.std.proofs.Common.{◌-◌, length, get_or, sym, ap, ◌∙◌, subst, arith}
+use Rattle.std.proofs.lemmas.List.{length-take}
 use Rattle.gnat_rows.proofs.Changes.{nth_within, same_row}
 use Rattle.gnat_rows.proofs.Showing.{shows_leaf}
 use Rattle.gnat_filing.specs.Dropping.{Droppable}
@@ -31,13 +32,25 @@ measured-ds-requires g t c =
     let i = is_drop_branch g.E.Metric.dist p.0 c.args.left rows c.args.node c.args.at p.1 p.2 p.3 p.4 b c.in-Branch.is in
     pivoted rows b (length rows) i.parts p.2 i.ready
 
+pub slice_bounds-ds-end : goal.slice_bounds-ds-end
+slice_bounds-ds-end g t c =
+    let p = c.requires in
+    let i = is_drop_branch g.E.Metric.dist p.0 c.args.left c.args.rows.now c.args.node c.args.at p.1 p.2 p.3 p.4 c.in-Branch.b c.in-Branch.is in
+    omega (arith, i.ready.most, c.measured-ds.ensures.eight, length-take c.in-Branch.b.count c.measured-ds.result)
+
+pub slice_bounds-closest-end : goal.slice_bounds-closest-end
+slice_bounds-closest-end g t c =
+    let p = c.requires in
+    let i = is_drop_branch g.E.Metric.dist p.0 c.args.left c.args.rows.now c.args.node c.args.at p.1 p.2 p.3 p.4 c.in-Branch.b c.in-Branch.is in
+    omega (arith, i.ready.most, c.measured-ds.ensures.eight, length-take c.in-Branch.b.count c.measured-ds.result)
+
 pub closest-j-requires : goal.closest-j-requires
 closest-j-requires g t c =
     let rows = c.args.rows.now in
     let b = c.in-Branch.b in
     let p = c.requires in
     let i = is_drop_branch g.E.Metric.dist p.0 c.args.left rows c.args.node c.args.at p.1 p.2 p.3 p.4 b c.in-Branch.is in
-    (i.ready.some, i.ready.most)
+    omega (arith, i.ready.some, i.ready.most, c.measured-ds.ensures.eight, length-take b.count c.measured-ds.result)
 
 pub bounds-b-j : goal.bounds-b-j
 bounds-b-j g t c =
@@ -45,7 +58,7 @@ bounds-b-j g t c =
     let b = c.in-Branch.b in
     let p = c.requires in
     let i = is_drop_branch g.E.Metric.dist p.0 c.args.left rows c.args.node c.args.at p.1 p.2 p.3 p.4 b c.in-Branch.is in
-    omega (arith, i.ready.most, c.closest-j.ensures.below)
+    omega (arith, i.ready.most, c.closest-j.ensures.below, length-take b.count c.measured-ds.result)
 
 pub node_in-child-requires : goal.node_in-child-requires
 node_in-child-requires g t c =
@@ -53,7 +66,7 @@ node_in-child-requires g t c =
     let b = c.in-Branch.b in
     let p = c.requires in
     let i = is_drop_branch g.E.Metric.dist p.0 c.args.left rows c.args.node c.args.at p.1 p.2 p.3 p.4 b c.in-Branch.is in
-    (pivoted rows b (length rows) i.parts p.2 i.ready).within c.closest-j.result c.closest-j.ensures.below
+    (pivoted rows b (length rows) i.parts p.2 i.ready).within c.closest-j.result (omega (arith, c.closest-j.ensures.below, length-take b.count c.measured-ds.result))
 
 pub take_out-dropped-requires : goal.take_out-dropped-requires
 take_out-dropped-requires g t c κs within =
@@ -91,7 +104,7 @@ put_node-requires g t c =
     let b = c.in-Branch.b in
     let p = c.requires in
     let i = is_drop_branch g.E.Metric.dist p.0 c.args.left rows c.args.node c.args.at p.1 p.2 p.3 p.4 b c.in-Branch.is in
-    omega (arith, c.take_out-dropped.auto.rows, (pivoted rows b (length rows) i.parts p.2 i.ready).within c.closest-j.result c.closest-j.ensures.below)
+    omega (arith, c.take_out-dropped.auto.rows, (pivoted rows b (length rows) i.parts p.2 i.ready).within c.closest-j.result (omega (arith, c.closest-j.ensures.below, length-take b.count c.measured-ds.result)))
 
 pub returns-then-is_pivot : goal.returns-then-is_pivot
 returns-then-is_pivot g m c degree t fs row d =

@@ -11,52 +11,49 @@ use Rattle.gnat_filing.proofs.filing.+file.Goals as goal
 pub file_in_leaf-requires : goal.file_in_leaf-requires
 file_in_leaf-requires g t c =
     let rows = c.args.rows.now in
-    let r = c.requires.ready in
+    let r = c.requires in
     let row = nth_there rows c.args.at r.2.within in
-    let l = is_leaf c.args.degree c.args.bucket c.args.left rows c.args.node c.args.at r.0 r.1 row.0 c.in-Leaf.l c.in-Leaf.is row.1 r.2 in
-    record { settings = c.requires.settings; leaf = (_, l.ready) }
+    let l = is_leaf c.args.settings.degree c.args.settings.bucket c.args.left rows c.args.node c.args.at r.0 r.1 row.0 c.in-Leaf.l c.in-Leaf.is row.1 r.2 in
+    (_, l.ready)
 
 pub approach-j-requires : goal.approach-j-requires
 approach-j-requires g t c =
     let rows = c.args.rows.now in
-    let r = c.requires.ready in
-    let b = is_branch c.args.degree c.args.bucket c.args.left rows c.args.node c.args.at r.0 r.1 c.in-Branch.b (omega arith) c.in-Branch.is r.2 in
+    let r = c.requires in
+    let b = is_branch c.args.settings.degree c.args.settings.bucket c.args.left rows c.args.node c.args.at r.0 r.1 c.in-Branch.b (omega arith) c.in-Branch.is r.2 in
     pivoted rows c.in-Branch.b c.args.at b.parts r.1 b.ready
 
 pub bounds-b-j : goal.bounds-b-j
 bounds-b-j g t c =
     let rows = c.args.rows.now in
-    let r = c.requires.ready in
-    let b = is_branch c.args.degree c.args.bucket c.args.left rows c.args.node c.args.at r.0 r.1 c.in-Branch.b (omega arith) c.in-Branch.is r.2 in
+    let r = c.requires in
+    let b = is_branch c.args.settings.degree c.args.settings.bucket c.args.left rows c.args.node c.args.at r.0 r.1 c.in-Branch.b (omega arith) c.in-Branch.is r.2 in
     omega (arith, b.ready.most, c.approach-j.ensures.below)
 
 pub node_in-child-requires : goal.node_in-child-requires
 node_in-child-requires g t c =
     let rows = c.args.rows.now in
-    let r = c.requires.ready in
-    let b = is_branch c.args.degree c.args.bucket c.args.left rows c.args.node c.args.at r.0 r.1 c.in-Branch.b (omega arith) c.in-Branch.is r.2 in
+    let r = c.requires in
+    let b = is_branch c.args.settings.degree c.args.settings.bucket c.args.left rows c.args.node c.args.at r.0 r.1 c.in-Branch.b (omega arith) c.in-Branch.is r.2 in
     (pivoted rows c.in-Branch.b c.args.at b.parts r.1 b.ready).within c.approach-j.result c.approach-j.ensures.below
 
 pub file-grown-requires : goal.file-grown-requires
 file-grown-requires g t c κs within =
     let rows = c.args.rows.now in
     let j = c.approach-j.result in
-    let r = c.requires.ready in
-    let b = is_branch c.args.degree c.args.bucket c.args.left rows c.args.node c.args.at r.0 r.1 c.in-Branch.b (omega arith) c.in-Branch.is r.2 in
+    let r = c.requires in
+    let b = is_branch c.args.settings.degree c.args.settings.bucket c.args.left rows c.args.node c.args.at r.0 r.1 c.in-Branch.b (omega arith) c.in-Branch.is r.2 in
     let kid = nth_child rows c.in-Branch.b c.args.at b.parts r.1 b.ready j c.approach-j.ensures.below in
     let read = c.node_in-child.ensures in
     let same = same_row rows (get_or c.in-Branch.b.pivots j 0) kid.row read.0 kid.there read.1 in
-    let ready = child_ready c.args.degree c.args.bucket c.args.left rows c.args.node c.args.at r.0 r.1 c.in-Branch.b b j kid in (
+    let ready = child_ready c.args.settings.degree c.args.settings.bucket c.args.left rows c.args.node c.args.at r.0 r.1 c.in-Branch.b b j kid in (
       omega (arith, c.decreases, r.2.deep),
       (
         within,
         (
-          c.requires.settings,
-          (
-            kid.tree,
-            kid.below,
-            subst (λ z. Ready c.args.degree c.args.bucket (c.args.left - 1) rows z c.args.at kid.tree kid.below) (ap (λ z. z.node) same ∙ sym read.2) ready,
-          ),
+          kid.tree,
+          kid.below,
+          subst (λ z. Ready c.args.settings.degree c.args.settings.bucket (c.args.left - 1) rows z c.args.at kid.tree kid.below) (ap (λ z. z.node) same ∙ sym read.2) ready,
         ),
       ),
     )
@@ -64,8 +61,8 @@ file-grown-requires g t c κs within =
 pub put_node-requires : goal.put_node-requires
 put_node-requires g t c =
     let rows = c.args.rows.now in
-    let r = c.requires.ready in
-    let b = is_branch c.args.degree c.args.bucket c.args.left rows c.args.node c.args.at r.0 r.1 c.in-Branch.b (omega arith) c.in-Branch.is r.2 in
+    let r = c.requires in
+    let b = is_branch c.args.settings.degree c.args.settings.bucket c.args.left rows c.args.node c.args.at r.0 r.1 c.in-Branch.b (omega arith) c.in-Branch.is r.2 in
     omega (arith, c.file-grown.auto.rows, (pivoted rows c.in-Branch.b c.args.at b.parts r.1 b.ready).within c.approach-j.result c.approach-j.ensures.below)
 
 pub returns-in-Leaf : goal.returns-in-Leaf
@@ -73,10 +70,10 @@ returns-in-Leaf g m c t fs row r there =
     let rows = c.args.rows.now in
     let rows' = c.file_in_leaf.new.rows in
     let dist = g.E.Metric.dist in
-    let l = is_leaf c.args.degree c.args.bucket c.args.left rows c.args.node c.args.at t fs row c.in-Leaf.l c.in-Leaf.is there r in
+    let l = is_leaf c.args.settings.degree c.args.settings.bucket c.args.left rows c.args.node c.args.at t fs row c.in-Leaf.l c.in-Leaf.is there r in
     let xs = l.samples ++ (sample_in row ∷ []) in
-    subst (λ z. LeavesTree rows rows' c.file_in_leaf.result (grown dist c.args.degree c.args.bucket (sample_in row) z) (c.args.at ∷ fs)) (sym l.tree)
-    (subst (λ z. LeavesTree rows rows' c.file_in_leaf.result (kept_or_split dist c.args.degree c.args.bucket xs) (c.args.at ∷ z)) l.lies (c.file_in_leaf.ensures xs l.ready))
+    subst (λ z. LeavesTree rows rows' c.file_in_leaf.result (grown dist c.args.settings.degree c.args.settings.bucket (sample_in row) z) (c.args.at ∷ fs)) (sym l.tree)
+    (subst (λ z. LeavesTree rows rows' c.file_in_leaf.result (kept_or_split dist c.args.settings.degree c.args.settings.bucket xs) (c.args.at ∷ z)) l.lies (c.file_in_leaf.ensures xs l.ready))
 
 pub returns-in-Branch : goal.returns-in-Branch
 returns-in-Branch g m c t fs row r there =
@@ -84,8 +81,8 @@ returns-in-Branch g m c t fs row r there =
     let at = c.args.at in
     let j = c.approach-j.result in
     let dist = g.E.Metric.dist in
-    let degree = c.args.degree in
-    let bucket = c.args.bucket in
+    let degree = c.args.settings.degree in
+    let bucket = c.args.settings.bucket in
     let left = c.args.left in
     let branch = c.in-Branch.b in
     let b = is_branch degree bucket left rows c.args.node at t fs branch (omega arith) c.in-Branch.is r in

@@ -4,5 +4,5 @@ use Rattle.gnat_filing.proofs.splitting.bare.Given as goal
 
 abbrev pub invariant-loop-j : goal.invariant-loop-j
 invariant-loop-j g l =
-    (l.b.count ≡ l.degree) × (l.b.pivots ≡ l.pivots) × (length l.b.low ≡ 8) × (length l.b.high ≡ 8)
-    × ((k : ℕ) → k < l.j → Pointed g.E.Metric.dist l.rows l.pivots l.b k)
+    (l.b.count ≡ l.fn.degree) × (l.b.pivots ≡ l.fn.pivots) × (length l.b.low ≡ 8) × (length l.b.high ≡ 8)
+    × ((k : ℕ) → k < l.j → Pointed g.E.Metric.dist l.rows l.fn.pivots l.b k)

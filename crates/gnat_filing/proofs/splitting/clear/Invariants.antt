@@ -1,5 +1,5 @@
 use Rattle.gnat_filing.specs.Filling.{Clears}
 use Rattle.gnat_filing.proofs.splitting.clear.Given as goal
 
-abbrev pub invariant-loop-j : goal.invariant-loop-j
-invariant-loop-j g l = Clears l.initial.rows l.rows l.pivots l.j
+abbrev pub invariant-loop-pivot : goal.invariant-loop-pivot
+invariant-loop-pivot g l = Clears l.initial.rows l.rows l.pivots l.pivot-index

@@ -1,7 +1,6 @@
-use Rattle.std.proofs.Common.{take}
 use Rattle.gnat_filing.specs.Choosing.{rows_of}
 use Rattle.gnat_filing.specs.Filling.{Fills}
 use Rattle.gnat_filing.proofs.splitting.fill.Given as goal
 
-abbrev pub invariant-loop-i : goal.invariant-loop-i
-invariant-loop-i g l = Fills g.E.Metric.dist l.i l.initial.rows l.rows l.initial.b l.b (rows_of (take l.m l.cs))
+abbrev pub invariant-loop-c : goal.invariant-loop-c
+invariant-loop-c g l = Fills g.E.Metric.dist l.c-index l.initial.rows l.rows l.initial.b l.b (rows_of l.cs)

@@ -10,10 +10,7 @@ pub file-self-requires : goal.file-self-requires
 file-self-requires g c =
     let s = c.args.self.now in
     let o = c.requires.sound in
-    record {
-      settings = record { two = o.two; eight = o.eight; room = o.room; most = o.most };
-      ready = (_, _, may_file_new g.E.Metric.dist s o c.requires.room c.args.e c.enlist-at.new.rows c.enlist-at.result c.enlist-at.ensures.leaves c.enlist-at.ensures.row);
-    }
+    (_, _, may_file_new g.E.Metric.dist s o c.requires.room c.args.e c.enlist-at.new.rows c.enlist-at.result c.enlist-at.ensures.leaves c.enlist-at.ensures.row)
 
 pub returns : goal.returns
 returns g c =
@@ -27,10 +24,9 @@ returns g c =
     let root = c.file-self.result in
     let long : length later ≡ length new = search (rules, c.file-self.auto) in
     record {
-      sound = new_sound dist s o c.requires.room e new at c.enlist-at.ensures.leaves c.enlist-at.ensures.row later root c.file-self.ensures long c.requires.numbers _ refl refl refl refl refl refl refl;
+      sound = new_sound dist s o c.requires.room e new at c.enlist-at.ensures.leaves c.enlist-at.ensures.row later root c.file-self.ensures long c.requires.numbers _ refl refl refl refl refl refl;
       means = new_means dist s o c.requires.room e new at c.enlist-at.ensures.leaves c.enlist-at.ensures.row later root c.file-self.ensures long;
       tree = new_tree dist s o c.requires.room e new at c.enlist-at.ensures.leaves c.enlist-at.ensures.row later root c.file-self.ensures long;
-      degree = refl;
-      bucket = refl;
+      settings = refl;
       last = refl;
     }

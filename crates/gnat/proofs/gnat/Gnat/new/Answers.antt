@@ -5,12 +5,10 @@ use Rattle.gnat.proofs.gnat.Gnat.new.Goals as goal
 pub returns : goal.returns
 returns g c =
     let rows = c.args.rows.now in
-    let s = c.args.settings in
     let dist = g.E.Metric.dist in
     record {
-      sound = new_sound dist rows c.list_rows.new.rows c.min-capacity.result c.min-capacity.ensures c.list_rows.ensures _ refl refl s.two s.eight s.room s.most refl refl refl;
+      sound = new_sound dist rows c.list_rows.new.rows c.min-capacity.result c.min-capacity.ensures c.list_rows.ensures _ refl refl refl refl refl;
       fresh = new_means dist rows c.list_rows.new.rows c.min-capacity.result c.min-capacity.ensures c.list_rows.ensures;
       tree = refl;
-      degree = refl;
-      bucket = refl;
+      settings = refl;
     }

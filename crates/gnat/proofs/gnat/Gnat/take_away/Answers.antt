@@ -16,7 +16,7 @@ take_out-dropped-requires g c =
     let at = c.args.at in
     let same : c.row_at-row.result ≡ get_or (places rows) at 0 = c.row_at-row.ensures.2 ∙ sym (place_of rows at c.row_at-row.ensures.0 c.row_at-row.ensures.1) in
     let r = there rows (get_or (places rows) at 0) (row_within dist s o at c.requires.listed) in
-    (s.degree, o.tree, o.lies, r.0, subst (λ i. Droppable dist s.degree 1025 rows s.root i o.tree o.lies r.0) (sym same) (may_take dist s o at c.requires.listed r.0 r.1))
+    (s.settings.degree, o.tree, o.lies, r.0, subst (λ i. Droppable dist s.settings.degree 1025 rows s.root i o.tree o.lies r.0) (sym same) (may_take dist s o at c.requires.listed r.0 r.1))
 
 pub returns : goal.returns
 returns g c =
@@ -33,6 +33,6 @@ returns g c =
     let gone = subst (λ i. DropsFrom dist 1025 rows later s.root root freed i) same c.take_out-dropped.ensures in
     λ n l.
     let r = l.1 in
-    let d = gone s.degree o.tree o.lies r.0 (may_take dist s o at c.requires.listed r.0 r.1) in
-    taken dist s o at c.requires.listed r.0 r.1 n r.2 later root long _ refl refl refl refl refl freed
+    let d = gone s.settings.degree o.tree o.lies r.0 (may_take dist s o at c.requires.listed r.0 r.1) in
+    taken dist s o at c.requires.listed r.0 r.1 n r.2 later root long _ refl refl refl refl freed
     (subst (λ k. Drops rows later root freed (get_or (places rows) at 0) (shrunk k o.tree) o.lies) r.2 d) c.unlist-self.ensures.leaves c.unlist-self.ensures.count

@@ -1,4 +1,4 @@
-use Rattle.std.proofs.Common.{◌≡◌, ◌-◌, ◌<◌, true, eqb, ltb, length, take, ap, ◌∙◌, ⊎_elim, arith, lt-ltb, eq-eqb}
+use Rattle.std.proofs.Common.{◌≡◌, ◌<◌, true, eqb, ltb, length, take, refl, ap, ◌∙◌, ⊎_elim, arith, lt-ltb, eq-eqb}
 use Rattle.std.proofs.lemmas.Bool.{or_left, or_right}
 use Rattle.std.proofs.lemmas.List.{length-take-le}
 use Rattle.hits.specs.Samples.{hits}
@@ -35,15 +35,14 @@ returns g c =
     let list = c.args.list.now in
     let fits = c.if-k-list.false in
     let low : 0 < k = omega (arith, c.if-k-eq0.false) in
-    let all : k - 0 ≡ k = omega arith in
-    let lent = take (k - 0) list in
-    let long : length lent ≡ k = length-take-le (k - 0) list (omega arith) ∙ all in
+    let lent = take k list in
+    let long : length lent ≡ k = length-take-le k list fits in
     let done = c.search-found.ensures o.tree o.lies o.shows in
-    let found = near_found _ dist g.E.Metric.laws s.degree s.bucket (standing_in s) o.tree q o.files lent c.search-found.new.list c.search-found.result done in
-    let written = near_written _ dist g.E.Metric.laws s.degree s.bucket (standing_in s) o.tree q o.files lent c.search-found.new.list c.search-found.result done in
+    let found = near_found _ dist g.E.Metric.laws s.settings.degree s.settings.bucket (standing_in s) o.tree q o.files lent c.search-found.new.list c.search-found.result done in
+    let written = near_written _ dist g.E.Metric.laws s.settings.degree s.settings.bucket (standing_in s) o.tree q o.files lent c.search-found.new.list c.search-found.result done in
     let r = near_done dist (gnat_meaning s) q k list low fits in
     record {
       answer = ap gives (omega (arith, found, long)) ∙ r.0;
-      writes = lent_front (hits dist q (standing_in s)) list c.search-found.new.list k (k - 0) fits all written ∙ r.1;
+      writes = lent_front (hits dist q (standing_in s)) list c.search-found.new.list k k fits refl written ∙ r.1;
       ranked = ranked dist s o q;
     }

@@ -15,7 +15,7 @@ returns g c =
     let list = c.args.list.now in
     let done = c.search-found.ensures o.tree o.lies o.shows in
     record {
-      answer = within_found _ dist g.E.Metric.laws s.degree s.bucket (standing_in s) o.tree q o.files list c.search-found.new.list c.search-found.result c.args.radius done;
-      writes = within_written _ dist g.E.Metric.laws s.degree s.bucket (standing_in s) o.tree q o.files list c.search-found.new.list c.search-found.result c.args.radius done;
+      answer = within_found _ dist g.E.Metric.laws s.settings.degree s.settings.bucket (standing_in s) o.tree q o.files list c.search-found.new.list c.search-found.result c.args.radius done;
+      writes = within_written _ dist g.E.Metric.laws s.settings.degree s.settings.bucket (standing_in s) o.tree q o.files list c.search-found.new.list c.search-found.result c.args.radius done;
       ranked = ranked dist s o q;
     }

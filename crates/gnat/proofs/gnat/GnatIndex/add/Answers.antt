@@ -5,7 +5,7 @@ use Rattle.index.proofs.Outcomes.{add_refused, add_done}
 use Rattle.gnat.specs.Gnats.{gnat_meaning}
 use Rattle.gnat.specs.Leaving.{tree_with_at}
 use Rattle.gnat.proofs.Calls.{room_is, tree_right}
-use Rattle.gnat.proofs.gnat.Gnat.add.Goals as goal
+use Rattle.gnat.proofs.gnat.GnatIndex.add.Goals as goal
 
 pub returns-in_err-room : goal.returns-in_err-room
 returns-in_err-room g c =
@@ -13,7 +13,7 @@ returns-in_err-room g c =
     let p = err_from_is_err_and c.from_residual.result c.from_residual.ensures.1 in
     let full = c.in_err-room.ensures ∙ room_is g.E.Metric.dist s c.requires c.capacity.result c.capacity.ensures in
     let r = add_refused (gnat_meaning s) c.args.e _ _ full in
-    rw (p.1, p.2) (record { stays = c.requires; answer = r.0; leaves = r.1; tree = ap (tree_with_at g.E.Metric.dist s c.args.e) full; right = tree_right g.E.Metric.dist s c.requires; degree = refl; bucket = refl })
+    rw (p.1, p.2) (record { stays = c.requires; answer = r.0; leaves = r.1; tree = ap (tree_with_at g.E.Metric.dist s c.args.e) full; right = tree_right g.E.Metric.dist s c.requires; settings = refl })
 
 pub returns : goal.returns
 returns g c =
@@ -27,6 +27,5 @@ returns g c =
       leaves = new.means ∙ r.1;
       tree = new.tree ∙ ap (tree_with_at g.E.Metric.dist s c.args.e) free;
       right = tree_right g.E.Metric.dist c.insert.new.self new.sound;
-      degree = new.degree;
-      bucket = new.bucket;
+      settings = new.settings;
     }

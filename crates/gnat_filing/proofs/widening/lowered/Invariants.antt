@@ -1,5 +1,0 @@
-use Rattle.std.proofs.Common.{◌≡◌, ℕ, ◌<◌, ◌≤◌, min, length, get_or}
-use Rattle.gnat_filing.proofs.widening.lowered.Given as goal
-
-abbrev pub invariant-loop-i : goal.invariant-loop-i
-invariant-loop-i l = (length l.r ≡ 8) × ((k : ℕ) → k < l.i → get_or l.r k 0 ≡ min (get_or l.initial.r k 0) (get_or l.ds k 0)) × ((k : ℕ) → l.i ≤ k → get_or l.r k 0 ≡ get_or l.initial.r k 0)
