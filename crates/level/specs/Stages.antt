@@ -1,5 +1,5 @@
 -- How far a file is read.
-use Rattle.std.specs.Prelude.{◌≡◌, ℕ, zero, suc, ◌+◌, ◌≤◌, List, [], ◌∷◌, length, Ok, Err, Result}
+use Rattle.std.specs.Prelude.{ℕ, zero, suc, ◌+◌, ◌≤◌, List, [], ◌∷◌, length, Ok, Err, Result}
 use Rattle.index.specs.Outcomes.{Outcome, gives, refuses}
 use Rattle.level_theory.specs.Levels.{Kind}
 use Rattle.level_theory.specs.Reading.{at_wall_count, at_walls, at_call_count, at_calls, at_end, Progress, progress}
@@ -52,10 +52,8 @@ SomeLeft (Calls n) = 1 ≤ n
 SomeLeft End = Unit {0}
 
 pub record Room {E W : Type 0} (r : Reader E W) : Type 0 where
-  pub wall_places : length r.level.walls ≡ 64
-  pub call_places : length r.level.calls ≡ 512
-  pub walls : r.level.wall_count + walls_yet r.stage ≤ 64
-  pub calls : r.level.call_count + calls_yet r.stage ≤ 512
+  pub walls : length r.level.walls.items + walls_yet r.stage ≤ 64
+  pub calls : length r.level.calls.items + calls_yet r.stage ≤ 512
   pub some : SomeLeft r.stage
 
 abbrev pub shown_progress : {E W : Type 0} → Kind → (E → List ℕ) → (W → List ℕ) → Reader E W → Progress

@@ -7,8 +7,9 @@ ghost use Rattle.level.specs.declared.reader.Stage.TheVariants.{End};
 ghost use Rattle.level.specs.Levels.{level_shown, empty_level};
 ghost use Rattle.level.specs.Stages.{stage_shown, walls_next, calls_next, Room, line_told, line_read};
 
-use crate::level::{Level, push_call, push_wall};
-use lines::calls::{CallLine, call_line};
+use crate::level::Level;
+use arrayvec::ArrayVec;
+use lines::calls::call_line;
 use lines::counts::{count_line, wall_line};
 use lines::fault::{ReadFault, at_line};
 use lines::header::Header;
@@ -32,6 +33,7 @@ pub(crate) struct Reader<E, W> {
     pub(crate) stage: Stage,
 }
 
+// Both stages of a section differ from those of the other, so that one function would be passed them.
 fn walls_to_come(left: usize) -> Stage
     ensures { result ≡ walls_next left }
 {
@@ -62,10 +64,8 @@ pub(crate) fn start<K: Written>(header: Header) -> Reader<K, K::Wall>
     Reader {
         level: Level {
             header,
-            walls: [K::blank_wall(); 64],
-            wall_count: 0,
-            calls: [CallLine::Island(0); 512],
-            call_count: 0,
+            walls: ArrayVec::new(),
+            calls: ArrayVec::new(),
         },
         stage: Stage::WallCount,
     }
@@ -91,7 +91,7 @@ fn take_line<K: Written>(
         }
         (Stage::Walls(left), Token::Digits(_, _)) => {
             let wall = wall_line::<K>(words)?;
-            push_wall(&mut reader.level, wall);
+            reader.level.walls.push(wall);
             reader.stage = walls_to_come(left - 1);
             Ok(())
         }
@@ -102,7 +102,7 @@ fn take_line<K: Written>(
         }
         (Stage::Calls(left), Token::Letters(_, _)) => {
             let call = call_line::<K>(words)?;
-            push_call(&mut reader.level, call);
+            reader.level.calls.push(call);
             reader.stage = calls_to_come(left - 1);
             Ok(())
         }
