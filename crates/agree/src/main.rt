@@ -15,6 +15,7 @@ use gnat::settings::Settings;
 use gnat_rows::Row as TreeRow;
 use history::{Answer, Call, Unplayed, compare};
 use hits::Hit;
+use index::refusal::Refusal;
 use links::Links;
 use scan::rows::Row;
 use scan::scan::Scan;
@@ -31,7 +32,7 @@ const HIT: Hit = Hit {
 // What a comparison came to: the answers and the last route, and whether the other run has the same.
 #[derive(Drop)]
 struct Played {
-    answers: Vec<Answer<Card>>,
+    answers: Vec<Result<Answer<Card>, Refusal>>,
     numbers: Vec<u16>,
     alike: bool,
 }
@@ -50,8 +51,8 @@ fn play<C: Checker<Card>>(
     let mut copy = vec![in heap; HIT; PLACES]?;
     let mut numbers = vec![in heap; 0; PLACES]?;
     let mut twins = vec![in heap; 0; PLACES]?;
-    let mut answers = vec![in heap; Answer::Dropped; calls.len()]?;
-    let mut again = vec![in heap; Answer::Dropped; calls.len()]?;
+    let mut answers = vec![in heap; Ok(Answer::Dropped); calls.len()]?;
+    let mut again = vec![in heap; Ok(Answer::Dropped); calls.len()]?;
     let result = compare(
         Scan::new(rows.as_mut_slice()),
         Gnat::new(tree.as_mut_slice(), settings),
@@ -68,14 +69,11 @@ fn play<C: Checker<Card>>(
         again.as_mut_slice(),
     );
     let alike = answers == again && hits == copy && numbers == twins;
-    Ok(match result {
-        Ok(()) => Ok(Played {
-            answers,
-            numbers,
-            alike,
-        }),
-        Err(unplayed) => Err(unplayed),
-    })
+    Ok(result.map(|_| Played {
+        answers,
+        numbers,
+        alike,
+    }))
 }
 
 // Each call with its answer, and what the last route left.

@@ -1,6 +1,7 @@
 // A call and its answer in plain words.
 use card::Card;
 use history::{Answer, Call};
+use index::refusal::Refusal;
 use std::io;
 
 fn tell_call<C>(rt: &HostRuntime, call: &Call<Card, C>) -> io::Result<()> {
@@ -20,19 +21,18 @@ fn tell_call<C>(rt: &HostRuntime, call: &Call<Card, C>) -> io::Result<()> {
     }
 }
 
-fn tell_answer(rt: &HostRuntime, answer: &Answer<Card>) -> io::Result<()> {
+fn tell_answer(rt: &HostRuntime, answer: &Result<Answer<Card>, Refusal>) -> io::Result<()> {
     match answer {
-        Answer::Added(number, edges) => println!(rt; "sample {number}, {edges} edges"),
-        Answer::Dropped => println!(rt; "taken out"),
-        Answer::Element(e) => println!(rt; "{e:?}"),
-        Answer::Tally(capacity, standing, last) => {
+        Ok(Answer::Added(number, edges)) => println!(rt; "sample {number}, {edges} edges"),
+        Ok(Answer::Dropped) => println!(rt; "taken out"),
+        Ok(Answer::Element(e)) => println!(rt; "{e:?}"),
+        Ok(Answer::Tally(capacity, standing, last)) => {
             println!(rt; "capacity {capacity}, {standing} standing, last number {last}")
         }
-        Answer::Near(count) => println!(rt; "{count} hits"),
-        Answer::Within(count) => println!(rt; "{count} hits"),
-        Answer::Island(number) => println!(rt; "{number}"),
-        Answer::Route(length, count) => println!(rt; "{length} long, {count} samples"),
-        Answer::Refused(refusal) => {
+        Ok(Answer::Near(count) | Answer::Within(count)) => println!(rt; "{count} hits"),
+        Ok(Answer::Island(number)) => println!(rt; "{number}"),
+        Ok(Answer::Route(length, count)) => println!(rt; "{length} long, {count} samples"),
+        Err(refusal) => {
             let number = refusal.number();
             println!(rt; "refused by {number}: {refusal}")
         }
@@ -43,7 +43,7 @@ fn tell_answer(rt: &HostRuntime, answer: &Answer<Card>) -> io::Result<()> {
 pub fn tell_all<C>(
     rt: &HostRuntime,
     calls: &[Call<Card, C>],
-    answers: &[Answer<Card>],
+    answers: &[Result<Answer<Card>, Refusal>],
 ) -> io::Result<()> {
     for (call, answer) in calls.iter().zip(answers.iter()) {
         tell_call(rt, call)?;

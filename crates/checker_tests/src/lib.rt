@@ -1,13 +1,13 @@
 // Step, Box and Mix beside the same rules computed another way, over many pairs and walls.
 #![tactic(auto)]
 
+mod cases;
 mod plain;
-mod rolls;
 
 #[cfg(test)]
 mod tests {
+    use crate::cases::Cases;
     use crate::plain;
-    use crate::rolls::Rolls;
     use arm::Arm;
     use arm_checkers::{BoxChecker, StepChecker, both};
     use card_checker::MixChecker;
@@ -17,8 +17,8 @@ mod tests {
 
     // The second pose of a case: every fourth time the first one again, and every fourth time one
     // that turns a little.
-    fn partner(rolls: &mut Rolls, case: u32, first: Arm) -> Arm {
-        let other = rolls.pose();
+    fn partner(cases: &mut Cases, case: u32, first: Arm) -> Arm {
+        let other = cases.pose();
         match case % 4 {
             0 => first,
             1 => Arm {
@@ -58,12 +58,12 @@ mod tests {
 
     #[test]
     fn arms_pass_as_the_rules_say(rt: HostRuntime) {
-        let mut rolls = Rolls { state: 7 };
+        let mut cases = Cases::new(7);
         let mut seen = [0u32; 3];
         for case in 0..400 {
-            let e = rolls.pose();
-            let f = partner(&mut rolls, case, e);
-            let kind = agrees(&rt, &[rolls.wall(), rolls.wall()], &e, &f);
+            let e = cases.pose();
+            let f = partner(&mut cases, case, e);
+            let kind = agrees(&rt, &[cases.wall(), cases.wall()], &e, &f);
             if kind < 3 {
                 seen[kind] = seen[kind].wrapping_add(1);
             }
@@ -73,13 +73,13 @@ mod tests {
 
     #[test]
     fn cards_pass_as_the_rules_say(rt: HostRuntime) {
-        let mut rolls = Rolls { state: 11 };
+        let mut cases = Cases::new(11);
         let mut seen = [0u32; 2];
         for case in 0..400 {
-            let e = rolls.card();
-            let other = rolls.card();
+            let e = cases.card();
+            let other = cases.card();
             let f = if case % 4 == 0 { e } else { other };
-            let walls = [rolls.card_wall(), rolls.card_wall()];
+            let walls = [cases.card_wall(), cases.card_wall()];
             let mix = MixChecker { walls: &walls };
             let passed = mix.check(&e, &f);
             assert!(rt; passed == plain::mix_passes(&walls, &e, &f));

@@ -34,11 +34,8 @@ fn size(from: u16, to: u16) -> u64
 
 pub fn steps(e: &Arm, f: &Arm) -> u64 {
     let mut most = 0;
-    for i in 0..6 {
-        let turned = size(e.angles[i], f.angles[i]);
-        if turned > most {
-            most = turned;
-        }
+    for (from, to) in e.angles.iter().zip(f.angles.iter()) {
+        most = size(*from, *to).max(most);
     }
     most
 }
@@ -82,22 +79,19 @@ fn in_arc(arc: Arc, angle: u64) -> bool {
 }
 
 fn in_wall(wall: &Wall, angles: [u64; 6]) -> bool {
-    for i in 0..6 {
-        if !in_arc(wall.arcs[i], angles[i]) {
-            return false;
-        }
-    }
-    true
+    wall.arcs
+        .iter()
+        .zip(angles.iter())
+        .all(|(arc, angle)| in_arc(*arc, *angle))
 }
 
 pub fn step_passes(walls: &[Wall], e: &Arm, f: &Arm) -> bool {
     let n = steps(e, f);
     let mut free = true;
-    for wall in walls {
-        for t in 0..2049 {
-            if t <= n && in_wall(wall, pose(e, f, t, n)) {
-                free = false;
-            }
+    for t in 0..2049 {
+        if t <= n {
+            let angles = pose(e, f, t, n);
+            free = free && !walls.iter().any(|wall| in_wall(wall, angles));
         }
     }
     free
@@ -127,13 +121,9 @@ fn meet(a: (u64, u64), b: (u64, u64)) -> bool {
 pub fn box_passes(walls: &[Wall], e: &Arm, f: &Arm) -> bool {
     let mut free = true;
     for wall in walls {
-        let mut met = true;
-        for i in 0..6 {
-            if !meet(stretch(wall.arcs[i]), swept(e.angles[i], f.angles[i])) {
-                met = false;
-            }
-        }
-        if met {
+        let turns = e.angles.iter().zip(f.angles.iter());
+        let mut arcs = wall.arcs.iter().zip(turns);
+        if arcs.all(|(arc, (from, to))| meet(stretch(*arc), swept(*from, *to))) {
             free = false;
         }
     }
@@ -143,15 +133,9 @@ pub fn box_passes(walls: &[Wall], e: &Arm, f: &Arm) -> bool {
 pub fn mix_passes(walls: &[CardWall], e: &Card, f: &Card) -> bool {
     let mut free = true;
     for wall in walls {
-        let mut blocked = true;
-        for i in 0..8 {
-            let asked = wall.slots[i];
-            if asked == 255 || asked == e.slots[i] || asked == f.slots[i] {
-                continue;
-            }
-            blocked = false;
-        }
-        if blocked {
+        let held = e.slots.iter().zip(f.slots.iter());
+        let mut slots = wall.slots.iter().zip(held);
+        if slots.all(|(asked, (one, other))| *asked == 255 || asked == one || asked == other) {
             free = false;
         }
     }

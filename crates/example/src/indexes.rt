@@ -1,5 +1,4 @@
 // Poses and cards in indexes: filed, dropped, found and refused.
-use crate::tell::{tell_add, tell_drop, tell_element, tell_near, tell_tally, tell_within};
 use arm::Arm;
 use card::Card;
 use hits::Hit;
@@ -7,6 +6,7 @@ use index::index::Index;
 use scan::rows::Row;
 use scan::scan::Scan;
 use std::io;
+use telling::{tell_add, tell_drop, tell_element, tell_near, tell_tally, tell_within};
 
 fn pose(first: u16, second: u16) -> Arm {
     Arm {

@@ -4,7 +4,6 @@
 mod indexes;
 mod kinds;
 mod moves;
-mod tell;
 
 use indexes::{arms, cards, numbers};
 use kinds::distances;

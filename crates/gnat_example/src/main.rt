@@ -2,7 +2,6 @@
 #![tactic(auto)]
 
 mod poses;
-mod tell;
 
 use poses::trees;
 use std::io;

@@ -1,7 +1,4 @@
 // Poses and cards in indexes: filed, dropped, found and refused.
-use crate::tell::{
-    tell_add, tell_drop, tell_element, tell_near, tell_refusal, tell_tally, tell_within,
-};
 use arm::Arm;
 use gnat::chosen::choose;
 use gnat::gnat::Gnat;
@@ -9,6 +6,9 @@ use gnat_rows::Row as TreeRow;
 use hits::Hit;
 use index::index::Index;
 use std::io;
+use telling::{
+    tell_add, tell_drop, tell_element, tell_near, tell_refusal, tell_tally, tell_within,
+};
 
 fn pose(first: u16, second: u16) -> Arm {
     Arm {

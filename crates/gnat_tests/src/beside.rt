@@ -14,10 +14,7 @@ const MARK: Hit = Hit {
 
 // The two lists hold the same, also behind what was written.
 fn same_hits(rt: &impl Abort, one: &[Hit], other: &[Hit]) -> Result<(), Fail> {
-    assert!(rt; one.len() == other.len());
-    for i in 0..one.len() {
-        assert_eq!(rt; one[i], other[i]);
-    }
+    assert_eq!(rt; one, other);
     Ok(())
 }
 

@@ -1,5 +1,6 @@
 // Calls in a row, made up as they go.
 use card::Card;
+use rolls::Rolls;
 
 #[derive(Clone, Copy)]
 pub enum Call {
@@ -23,7 +24,7 @@ pub enum Style {
 pub struct Script {
     style: Style,
     values: u32,
-    state: u32,
+    rolls: Rolls,
     oldest: u16,
 }
 
@@ -32,25 +33,15 @@ impl Script {
         Script {
             style,
             values,
-            state: seed,
+            rolls: Rolls::new(seed),
             oldest: 1,
-        }
-    }
-
-    // A number that looks random.
-    fn below(&mut self, limit: u32) -> u32 {
-        self.state = self.state.wrapping_mul(1664525).wrapping_add(1013904223);
-        if limit == 0 {
-            0
-        } else {
-            (self.state >> 16) % limit
         }
     }
 
     fn card(&mut self) -> Card {
         let mut slots = [0u8; 8];
-        for i in 0..8 {
-            slots[i] = (self.below(self.values) & 255) as u8;
+        for slot in slots.iter_mut() {
+            *slot = (self.rolls.below(self.values) & 255) as u8;
         }
         Card { slots }
     }
@@ -58,17 +49,17 @@ impl Script {
     // A call that changes nothing.
     fn question(&mut self, number: u16) -> Call {
         let card = self.card();
-        match self.below(4) {
+        match self.rolls.below(4) {
             0 => Call::Element(number),
-            1 => Call::Near(card, self.below(14) as usize),
+            1 => Call::Near(card, self.rolls.below(14) as usize),
             2 => Call::Within(card, u32::MAX),
-            _ => Call::Within(card, self.below(160)),
+            _ => Call::Within(card, self.rolls.below(160)),
         }
     }
 
     fn mixed(&mut self, last: u16) -> Call {
-        let number = (self.below(u32::from(last) + 3) % 65536) as u16;
-        match self.below(6) {
+        let number = (self.rolls.below(u32::from(last) + 3) % 65536) as u16;
+        match self.rolls.below(6) {
             0 | 1 => Call::Add(self.card()),
             2 => Call::Drop(number),
             _ => self.question(number),

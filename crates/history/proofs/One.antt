@@ -2,10 +2,9 @@
 use Rattle.std.proofs.Common.{◌≡◌, ℕ, Bool, List, [], ◌∷◌, sym, refl, ap, ◌∙◌, subst}
 use mathlib.Core.Path.{fun_ext}
 use Rattle.history.specs.declared.Call.{Call}
-use Rattle.history.specs.declared.Answer.{Answer}
 use Rattle.history_theory.specs.History.{Asked, asks_add, History, then_asks, Gives}
 use Rattle.history_theory.proofs.One.{gives_one}
-use Rattle.history.specs.Turns.{Lent, reply, asked, places_of, lists_after}
+use Rattle.history.specs.Turns.{Said, Lent, reply, asked, places_of, lists_after}
 use Rattle.history.specs.Law.{Turn, Plays, Alike, adds, drops, elements, tallied, neared, ranged, islands, routes, AllAlike, replies}
 
 module _ {E C D : Type 0} (dist : E → E → ℕ) (p : C → E → E → Bool) (q : D → E → E → Bool) where
@@ -29,13 +28,13 @@ module _ {E C D : Type 0} (dist : E → E → ℕ) (p : C → E → E → Bool) 
   same_places c d (islands n) = refl
   same_places c d (routes a b n) = refl
 
-  pub same_turn : (h : History E) (c : Call E C) (d : Call E D) (l m n : Lent) (a b : Answer E) → Alike p q c d → Turn dist p h c l a m → Turn dist q h d l b n → (reply a ≡ reply b) × (m ≡ n)
+  pub same_turn : (h : History E) (c : Call E C) (d : Call E D) (l m n : Lent) (a b : Said E) → Alike p q c d → Turn dist p h c l a m → Turn dist q h d l b n → (reply a ≡ reply b) × (m ≡ n)
   same_turn h c d l m n a b s x y =
       let P : Asked E → Type 0 = λ z. Gives dist h z (reply a) x.lists in
       let r = gives_one dist h (asked q d l) (reply a) (reply b) x.lists y.lists (subst P (same_asked c d l s) x.gives) y.gives in
       (r.0, x.leaves ∙ ((λ i. lists_after (same_places c d s i) l (r.1 i)) ∙ sym y.leaves))
 
-  pub same_plays : (h : History E) (cs : List (Call E C)) (ds : List (Call E D)) (l : Lent) (as' bs : List (Answer E)) (ms ns : List Lent) → AllAlike p q cs ds → Plays dist p h cs l as' ms → Plays dist q h ds l bs ns → (replies as' ≡ replies bs) × (ms ≡ ns)
+  pub same_plays : (h : History E) (cs : List (Call E C)) (ds : List (Call E D)) (l : Lent) (as' bs : List (Said E)) (ms ns : List Lent) → AllAlike p q cs ds → Plays dist p h cs l as' ms → Plays dist q h ds l bs ns → (replies as' ≡ replies bs) × (ms ≡ ns)
   same_plays h [] [] l [] [] [] [] s u v = (refl, refl)
   same_plays h [] [] l [] [] [] (n ∷ ns) s u v = absurd v
   same_plays h [] [] l [] [] (m ∷ ms) ns s u v = absurd u

@@ -10,9 +10,8 @@ use Rattle.history.specs.declared.Unplayed.{Unplayed}
 use Rattle.history.specs.declared.Unplayed.TheVariants as play
 use Rattle.history.specs.declared.Call.{Call}
 use Rattle.history.specs.declared.Call.TheVariants as call
-use Rattle.history.specs.declared.Answer.{Answer}
 use Rattle.history_theory.specs.History.{History, then_asks}
-use Rattle.history.specs.Turns.{Lent, reply, asked, Does, Runs, final, Ran}
+use Rattle.history.specs.Turns.{Said, Lent, reply, asked, Does, Runs, final, Ran}
 use Rattle.history.specs.Fitting.{unless}
 use Rattle.history.proofs.Fitting.{OfAList}
 use Rattle.history.specs.Law.{Turn, Plays, AllAlike, Judged, JudgedFitting, Whole}
@@ -33,12 +32,12 @@ module _ {E C : Type 0} (dist : E → E → ℕ) (passes : C → E → E → Boo
   fair (call.Island n) l = tt
   fair (call.Route a b n) l = tt
 
-  pub turn : (h : History E) (road after : Road E) (c : Call E C) (l m : Lent) (a : Answer E) → Reached dist h road → Does dist passes road c l a m after → Turn dist passes h c l a m
+  pub turn : (h : History E) (road after : Road E) (c : Call E C) (l m : Lent) (a : Said E) → Reached dist h road → Does dist passes road c l a m after → Turn dist passes h c l a m
   turn h road after c l m a r d =
       let g = gives_of dist top laws h road r (asked passes c l) (reply a) d.lists after d.tells in
       record { lists = d.lists; gives = g; leaves = d.leaves; owed = owed dist top laws h r.even (asked passes c l) (reply a) d.lists g }
 
-  pub plays_of : (h : History E) (road after : Road E) (cs : List (Call E C)) (l : Lent) (as' : List (Answer E)) (ms : List Lent) → Reached dist h road → Runs dist passes road cs l as' ms after → Plays dist passes h cs l as' ms
+  pub plays_of : (h : History E) (road after : Road E) (cs : List (Call E C)) (l : Lent) (as' : List (Said E)) (ms : List Lent) → Reached dist h road → Runs dist passes road cs l as' ms after → Plays dist passes h cs l as' ms
   plays_of h road after [] l [] [] r x = tt
   plays_of h road after [] l [] (m ∷ ms) r x = x
   plays_of h road after [] l (a ∷ as') ms r x = x
@@ -49,7 +48,7 @@ module _ {E C : Type 0} (dist : E → E → ℕ) (passes : C → E → E → Boo
 
 -- two runs from one history
 module _ {E C D : Type 0} (dist : E → E → ℕ) (top : ℕ) (laws : MetricLaws top dist) (p : C → E → E → Bool) (evenP : Symmetric p) (q : D → E → E → Bool) (evenQ : Symmetric q) where
-  pub whole : (h : History E) (one two afterO afterT : Road E) (cs : List (Call E C)) (ds : List (Call E D)) (l m n : Lent) (as' bs : List (Answer E)) → Reached dist h one → Reached dist h two → AllAlike p q cs ds → Ran dist p one cs l as' m afterO → Ran dist q two ds l bs n afterT → Whole dist p q h cs ds l as' m bs n
+  pub whole : (h : History E) (one two afterO afterT : Road E) (cs : List (Call E C)) (ds : List (Call E D)) (l m n : Lent) (as' bs : List (Said E)) → Reached dist h one → Reached dist h two → AllAlike p q cs ds → Ran dist p one cs l as' m afterO → Ran dist q two ds l bs n afterT → Whole dist p q h cs ds l as' m bs n
   whole h one two afterO afterT cs ds l m n as' bs ro rt s x y =
       let u = plays_of dist p evenP top laws h one afterO cs l as' x.turns ro x.runs in
       let v = plays_of dist q evenQ top laws h two afterT ds l bs y.turns rt y.runs in

@@ -2,25 +2,24 @@
 use Rattle.std.specs.Prelude.{◌≡◌, ℕ, ◌<◌, ◌≤◌, Bool, ◌⊎◌, List, [], ◌∷◌, Ok, Err, Result, ◌≢◌}
 use Rattle.history.specs.declared.Call.{Call}
 use Rattle.history.specs.declared.Call.TheVariants as call
-use Rattle.history.specs.declared.Answer.{Answer}
 use Rattle.history.specs.declared.Unplayed.{Unplayed}
 use Rattle.history.specs.declared.Unplayed.TheVariants.{Unmade, Answers, Hits, Numbers}
 use Rattle.roadmap.specs.declared.Unmade.TheVariants.{Setting, TooFewRecords}
 use Rattle.history_theory.specs.History.{Reply, Lists, History, then_asks, Gives}
 use Rattle.history_theory.specs.Owed.{Owed}
 use Rattle.history.specs.Fitting.{unless}
-use Rattle.history.specs.Turns.{Lent, reply, asked, places_of, lists_after, final}
+use Rattle.history.specs.Turns.{Said, Lent, reply, asked, places_of, lists_after, final}
 
 module _ {E C : Type 0} (dist : E → E → ℕ) (passes : C → E → E → Bool) where
   -- one turn of a run: the call is answered, and its list left, as the history gives, with what is owed of it
-  pub record Turn (h : History E) (c : Call E C) (l : Lent) (a : Answer E) (m : Lent) : Type 0 where
+  pub record Turn (h : History E) (c : Call E C) (l : Lent) (a : Said E) (m : Lent) : Type 0 where
     pub lists : Lists
     pub gives : Gives dist h (asked passes c l) (reply a) lists
     pub leaves : m ≡ lists_after (places_of c) l lists
     pub owed : Owed dist h (asked passes c l) (reply a) lists
 
   -- every turn of a run, each on the history that the turns before it make
-  abbrev pub Plays : History E → List (Call E C) → Lent → List (Answer E) → List Lent → Type 0
+  abbrev pub Plays : History E → List (Call E C) → Lent → List (Said E) → List Lent → Type 0
   Plays h [] l [] [] = Unit {0}
   Plays h [] l [] (m ∷ ms) = ⊥
   Plays h [] l (a ∷ as') ms = ⊥
@@ -45,13 +44,13 @@ AllAlike p q [] (d ∷ ds) = ⊥
 AllAlike p q (c ∷ cs) [] = ⊥
 AllAlike p q (c ∷ cs) (d ∷ ds) = Alike p q c d × AllAlike p q cs ds
 
-abbrev pub replies : {E : Type 0} → List (Answer E) → List (Reply E)
+abbrev pub replies : {E : Type 0} → List (Said E) → List (Reply E)
 replies [] = []
 replies (a ∷ rest) = reply a ∷ replies rest
 
 -- Agreement. Two runs of one history: every turn of either is as the history gives, with what is owed of islands and
 -- routes; at every turn the lists of both hold the same, and the two answer alike.
-pub record Whole {E C D : Type 0} (dist : E → E → ℕ) (p : C → E → E → Bool) (q : D → E → E → Bool) (h : History E) (cs : List (Call E C)) (ds : List (Call E D)) (l : Lent) (answers : List (Answer E)) (m : Lent) (again : List (Answer E)) (n : Lent) : Type 0 where
+pub record Whole {E C D : Type 0} (dist : E → E → ℕ) (p : C → E → E → Bool) (q : D → E → E → Bool) (h : History E) (cs : List (Call E C)) (ds : List (Call E D)) (l : Lent) (answers : List (Said E)) (m : Lent) (again : List (Said E)) (n : Lent) : Type 0 where
   pub turns : List Lent
   pub plays : Plays dist p h cs l answers turns
   pub plays_again : Plays dist q h ds l again turns

@@ -1,6 +1,7 @@
 -- Turns of a run on a roadmap, from what the roadmap means.
-use Rattle.std.specs.Prelude.{◌≡◌, ℕ, Bool, List, [], ◌∷◌, ◌++◌, take, drop}
+use Rattle.std.specs.Prelude.{◌≡◌, ℕ, Bool, List, [], ◌∷◌, ◌++◌, take, drop, Ok, Err, Result}
 use Rattle.hits.specs.declared.Hit.{Hit}
+use Rattle.index.specs.declared.refusal.Refusal.{Refusal}
 use Rattle.index.specs.Outcomes.{number_of, figures_of}
 use Rattle.roadmap.specs.Roads.{Road}
 use Rattle.history_theory.specs.Tells.{Tells}
@@ -18,17 +19,21 @@ pub record Lent : Type 0 where
 abbrev pub lent : List Hit → List ℕ → Lent
 lent h n = record { hits = h; numbers = n }
 
--- what an answer says
-abbrev pub reply : {E : Type 0} → Answer E → Reply E
-reply (answer.Added n edges) = grew n edges
-reply answer.Dropped = shrank
-reply (answer.Element e) = shows e
-reply (answer.Tally c s l) = tallies c s l
-reply (answer.Near n) = nears n
-reply (answer.Within n) = withins n
-reply (answer.Island n) = names n
-reply (answer.Route l n) = leads l n
-reply (answer.Refused f) = refused (number_of f) (figures_of f)
+-- what a call answers: an answer, or a refusal
+abbrev pub Said : Type 0 → Type 0
+Said E = Result (Answer E) Refusal
+
+-- what that says
+abbrev pub reply : {E : Type 0} → Said E → Reply E
+reply (Ok (answer.Added n edges)) = grew n edges
+reply (Ok answer.Dropped) = shrank
+reply (Ok (answer.Element e)) = shows e
+reply (Ok (answer.Tally c s l)) = tallies c s l
+reply (Ok (answer.Near n)) = nears n
+reply (Ok (answer.Within n)) = withins n
+reply (Ok (answer.Island n)) = names n
+reply (Ok (answer.Route l n)) = leads l n
+reply (Err f) = refused (number_of f) (figures_of f)
 
 -- a call as a history has it: its checker as the pairs that it passes, its list by what its places hold
 abbrev pub asked : {E C : Type 0} → (C → E → E → Bool) → Call E C → Lent → Asked E
@@ -59,13 +64,13 @@ lists_after places l (hit_list x) = lent (x ++ drop places l.hits) l.numbers
 lists_after places l (number_list x) = lent l.hits (x ++ drop places l.numbers)
 
 module _ {E C : Type 0} (dist : E → E → ℕ) (passes : C → E → E → Bool) where
-  pub record Does (road : Road E) (c : Call E C) (l : Lent) (a : Answer E) (m : Lent) (after : Road E) : Type 0 where
+  pub record Does (road : Road E) (c : Call E C) (l : Lent) (a : Said E) (m : Lent) (after : Road E) : Type 0 where
     pub lists : Lists
     pub tells : Tells dist road (asked passes c l) (reply a) lists after
     pub leaves : m ≡ lists_after (places_of c) l lists
 
   -- a run, with its lists after each turn
-  abbrev pub Runs : Road E → List (Call E C) → Lent → List (Answer E) → List Lent → Road E → Type 0
+  abbrev pub Runs : Road E → List (Call E C) → Lent → List (Said E) → List Lent → Road E → Type 0
   Runs road [] l [] [] after = after ≡ road
   Runs road [] l [] (m ∷ ms) after = ⊥
   Runs road [] l (a ∷ as') ms after = ⊥
@@ -77,7 +82,7 @@ abbrev pub final : Lent → List Lent → Lent
 final l [] = l
 final l (m ∷ ms) = final m ms
 
-pub record Ran {E C : Type 0} (dist : E → E → ℕ) (passes : C → E → E → Bool) (road : Road E) (cs : List (Call E C)) (l : Lent) (answers : List (Answer E)) (m : Lent) (after : Road E) : Type 0 where
+pub record Ran {E C : Type 0} (dist : E → E → ℕ) (passes : C → E → E → Bool) (road : Road E) (cs : List (Call E C)) (l : Lent) (answers : List (Said E)) (m : Lent) (after : Road E) : Type 0 where
   pub turns : List Lent
   pub runs : Runs dist passes road cs l answers turns after
   pub ends : final l turns ≡ m

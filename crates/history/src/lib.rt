@@ -6,6 +6,7 @@ ghost use Rattle.index.specs.Meaning.{fresh};
 ghost use Rattle.roadmap.specs.Roads.{road_of, RoadSound};
 ghost use Rattle.history.specs.Turns.{lent, Does, Ran};
 ghost use Rattle.history.specs.Fitting.{hit_places, number_places, fits_call, fitting};
+ghost use Rattle.history.specs.declared.Unplayed.TheVariants.{Unmade as UnmadeCase};
 ghost use Rattle.history_theory.specs.History.{start};
 ghost use Rattle.history.specs.Law.{AllAlike, Judged, JudgedFitting, Whole};
 
@@ -31,7 +32,7 @@ pub enum Call<E, C> {
     Route(u16, u16, usize),
 }
 
-// What a call answers.
+// What a call answers, if it is not refused.
 #[derive(Clone, Copy, Debug, PartialEq)]
 pub enum Answer<E> {
     Added(u16, u8),
@@ -42,7 +43,6 @@ pub enum Answer<E> {
     Within(usize),
     Island(u16),
     Route(u32, u16),
-    Refused(Refusal),
 }
 
 // Why a history is not played.
@@ -58,13 +58,20 @@ pub enum Unplayed {
     Numbers(usize),
 }
 
+impl From<Unmade> for Unplayed {
+    ghost from_gives = { λ e r. r ≡ UnmadeCase e };
+
+    fn from(unmade: Unmade) -> Unplayed {
+        Unplayed::Unmade(unmade)
+    }
+}
+
 // How many places of a list of hits a call asks for.
 fn hit_places<E, C>(call: &Call<E, C>) -> usize
     ensures { result ≡ hit_places call.now }
 {
     match call {
-        Call::Near(_, _, places) => *places,
-        Call::Within(_, _, places) => *places,
+        Call::Near(_, _, places) | Call::Within(_, _, places) => *places,
         _ => 0,
     }
 }
@@ -110,49 +117,38 @@ pub fn ask<'a, I: Index + Drop, C: Checker<I::Element>>(
     call: &Call<I::Element, C>,
     list: &mut [Hit],
     numbers: &mut [u16],
-) -> Answer<I::Element>
+) -> Result<Answer<I::Element>, Refusal>
     requires { RoadSound I.Index.sound I.Index.meaning road.old }
     ensures stays { RoadSound I.Index.sound I.Index.meaning road.new }
     ensures does { Does I.Element.Metric.dist C.Checker.passes (road_of I.Index.meaning road.old) call.now (lent list.old numbers.old) result (lent list.new numbers.new) (road_of I.Index.meaning road.new) }
 {
     match call {
-        Call::Add(e, checker) => match road.add(*e, checker) {
-            Ok((number, edges)) => Answer::Added(number, edges),
-            Err(refusal) => Answer::Refused(refusal),
-        },
-        Call::Drop(number) => match road.drop(*number) {
-            Ok(()) => Answer::Dropped,
-            Err(refusal) => Answer::Refused(refusal),
-        },
-        Call::Element(number) => match road.element(*number) {
-            Ok(e) => Answer::Element(e),
-            Err(refusal) => Answer::Refused(refusal),
-        },
+        Call::Add(e, checker) => {
+            let (number, edges) = road.add(*e, checker)?;
+            Ok(Answer::Added(number, edges))
+        }
+        Call::Drop(number) => {
+            road.drop(*number)?;
+            Ok(Answer::Dropped)
+        }
+        Call::Element(number) => Ok(Answer::Element(road.element(*number)?)),
         Call::Tally => {
             let (capacity, standing, last) = road.tally();
-            Answer::Tally(capacity, standing, last)
+            Ok(Answer::Tally(capacity, standing, last))
         }
         Call::Near(q, k, places) => {
             let places = (*places).min(list.len());
-            match road.near(q, *k, &mut list[0..places]) {
-                Ok(count) => Answer::Near(count),
-                Err(refusal) => Answer::Refused(refusal),
-            }
+            Ok(Answer::Near(road.near(q, *k, &mut list[0..places])?))
         }
         Call::Within(q, radius, places) => {
             let places = (*places).min(list.len());
-            Answer::Within(road.within(q, *radius, &mut list[0..places]))
+            Ok(Answer::Within(road.within(q, *radius, &mut list[0..places])))
         }
-        Call::Island(number) => match road.island(*number) {
-            Ok(smallest) => Answer::Island(smallest),
-            Err(refusal) => Answer::Refused(refusal),
-        },
+        Call::Island(number) => Ok(Answer::Island(road.island(*number)?)),
         Call::Route(a, b, places) => {
             let places = (*places).min(numbers.len());
-            match road.route(*a, *b, &mut numbers[0..places]) {
-                Ok((length, count)) => Answer::Route(length, count),
-                Err(refusal) => Answer::Refused(refusal),
-            }
+            let (length, count) = road.route(*a, *b, &mut numbers[0..places])?;
+            Ok(Answer::Route(length, count))
         }
     }
 }
@@ -163,14 +159,14 @@ fn run<'a, I: Index + Drop, C: Checker<I::Element>>(
     calls: &[Call<I::Element, C>],
     list: &mut [Hit],
     numbers: &mut [u16],
-    answers: &mut [Answer<I::Element>],
+    answers: &mut [Result<Answer<I::Element>, Refusal>],
 )
     requires { (RoadSound I.Index.sound I.Index.meaning road.old) × (length calls.now ≡ length answers.old) }
     ensures stays { RoadSound I.Index.sound I.Index.meaning road.new }
     ensures ran { Ran I.Element.Metric.dist C.Checker.passes (road_of I.Index.meaning road.old) calls.now (lent list.old numbers.old) answers.new (lent list.new numbers.new) (road_of I.Index.meaning road.new) }
 {
-    for i in 0..calls.len() {
-        answers[i] = ask(road, &calls[i], list, numbers);
+    for (i, call) in calls.iter().enumerate() {
+        answers[i] = ask(road, call, list, numbers);
     }
 }
 
@@ -196,8 +192,8 @@ pub fn compare<
     copy: &mut [Hit],
     numbers: &mut [u16],
     twins: &mut [u16],
-    answers: &mut [Answer<I::Element>],
-    again: &mut [Answer<I::Element>],
+    answers: &mut [Result<Answer<I::Element>, Refusal>],
+    again: &mut [Result<Answer<I::Element>, Refusal>],
 ) -> Result<(), Unplayed>
     requires { (I.Index.sound first) × (J.Index.sound second) }
     ensures judged { Judged k (length calls.now) (length answers.old) (length others.now) (length again.old) (I.Index.meaning first).capacity (length links.old) (J.Index.meaning second).capacity (length spare.old) result }
@@ -210,14 +206,8 @@ pub fn compare<
     if again.len() != others.len() {
         return Err(Unplayed::Answers(others.len()));
     }
-    let mut one = match Roadmap::new(first, k, links) {
-        Ok(road) => road,
-        Err(unmade) => return Err(Unplayed::Unmade(unmade)),
-    };
-    let mut two = match Roadmap::new(second, k, spare) {
-        Ok(road) => road,
-        Err(unmade) => return Err(Unplayed::Unmade(unmade)),
-    };
+    let mut one = Roadmap::new(first, k, links)?;
+    let mut two = Roadmap::new(second, k, spare)?;
     run(&mut one, calls, list, numbers, answers);
     run(&mut two, others, copy, twins, again);
     Ok(())
@@ -243,8 +233,8 @@ pub fn compare_fitting<
     copy: &mut [Hit],
     numbers: &mut [u16],
     twins: &mut [u16],
-    answers: &mut [Answer<I::Element>],
-    again: &mut [Answer<I::Element>],
+    answers: &mut [Result<Answer<I::Element>, Refusal>],
+    again: &mut [Result<Answer<I::Element>, Refusal>],
 ) -> Result<(), Unplayed>
     requires { (I.Index.sound first) × (J.Index.sound second) }
     ensures judged { JudgedFitting k (length calls.now) (length answers.old) (length others.now) (length again.old) (fitting (length list.old) (length numbers.old) calls.now) (fitting (length copy.old) (length twins.old) others.now) (I.Index.meaning first).capacity (length links.old) (J.Index.meaning second).capacity (length spare.old) result }

@@ -4,36 +4,16 @@ use card::Card;
 use hits::Hit;
 use index::index::Index;
 use index::refusal::Refusal;
+use rolls::Rolls;
 use std::alloc::Global;
 use std::process::Abort;
 use std::test::Fail;
 
-// A row of numbers that looks random.
-#[derive(Drop)]
-pub struct Random {
-    state: u32,
-}
-
-impl Random {
-    pub fn new(seed: u32) -> Random {
-        Random { state: seed }
-    }
-
-    pub fn below(&mut self, limit: u32) -> u32 {
-        self.state = self.state.wrapping_mul(1664525).wrapping_add(1013904223);
-        if limit == 0 {
-            0
-        } else {
-            (self.state >> 16) % limit
-        }
-    }
-}
-
 // A card of few values, so that many distances are equal.
-pub fn some_card(random: &mut Random) -> Card {
+fn some_card(rolls: &mut Rolls) -> Card {
     let mut slots = [0u8; 8];
-    for i in 0..8 {
-        slots[i] = (random.below(2) & 1) as u8;
+    for slot in slots.iter_mut() {
+        *slot = (rolls.below(2) & 1) as u8;
     }
     Card { slots }
 }
@@ -47,17 +27,15 @@ const MARK: Hit = Hit {
 fn same_hits(
     rt: &impl Abort,
     list: &[Hit],
-    expected: &Vec<(u32, u16)>,
+    expected: &[(u32, u16)],
     most: usize,
 ) -> Result<(), Fail> {
-    for i in 0..list.len() {
-        let hit = list[i];
-        if i < most && i < expected.len() {
-            let (distance, number) = expected[i];
-            assert_eq!(rt; hit.distance, distance);
-            assert_eq!(rt; hit.number, number);
-        } else {
-            assert_eq!(rt; hit, MARK);
+    for (i, hit) in list.iter().enumerate() {
+        match expected.get(i) {
+            Some((distance, number)) if i < most => {
+                assert_eq!(rt; (hit.distance, hit.number), (*distance, *number));
+            }
+            _ => assert_eq!(rt; *hit, MARK),
         }
     }
     Ok(())
@@ -78,10 +56,10 @@ fn ask_near<I: Index<Element = Card>>(
     let expected = model.within(q, u32::MAX)?;
     if k == 0 || k > list.len() {
         assert_eq!(rt; answer, Err(Refusal::HitCount));
-        return same_hits(rt, list, &expected, 0);
+        return same_hits(rt, list, expected.as_slice(), 0);
     }
     assert_eq!(rt; answer, Ok(k.min(expected.len())));
-    same_hits(rt, list, &expected, k)
+    same_hits(rt, list, expected.as_slice(), k)
 }
 
 fn ask_within<I: Index<Element = Card>>(
@@ -98,7 +76,7 @@ fn ask_within<I: Index<Element = Card>>(
     let count = index.within(q, radius, list);
     let expected = model.within(q, radius)?;
     assert_eq!(rt; count, expected.len());
-    same_hits(rt, list, &expected, list.len())
+    same_hits(rt, list, expected.as_slice(), list.len())
 }
 
 // One random call on both.
@@ -106,20 +84,20 @@ pub fn call_both<I: Index<Element = Card>>(
     rt: &impl Abort,
     index: &mut I,
     model: &mut Model,
-    random: &mut Random,
+    rolls: &mut Rolls,
     list: &mut [Hit],
 ) -> Result<(), Fail>
     requires { I.sound index.old }
     ensures { I.sound index.new }
 {
-    let card = some_card(random);
+    let card = some_card(rolls);
     let (_, _, last) = index.tally();
-    let number = (random.below(u32::from(last) + 3) % 65536) as u16;
-    match random.below(6) {
+    let number = (rolls.below(u32::from(last) + 3) % 65536) as u16;
+    match rolls.below(6) {
         0 | 1 => assert_eq!(rt; index.add(card), model.add(card)?),
-        2 => assert_eq!(rt; index.drop(number), model.drop(number)?),
-        3 => ask_near(rt, index, model, &card, random.below(14) as usize, list)?,
-        4 => ask_within(rt, index, model, &card, random.below(160), list)?,
+        2 => assert_eq!(rt; index.drop(number), model.drop(number)),
+        3 => ask_near(rt, index, model, &card, rolls.below(14) as usize, list)?,
+        4 => ask_within(rt, index, model, &card, rolls.below(160), list)?,
         _ => assert_eq!(rt; index.element(number), model.element(number)),
     }
     assert_eq!(rt; index.tally(), model.tally());

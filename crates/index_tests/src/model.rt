@@ -1,16 +1,17 @@
-// A plain index: a list of samples, sorted anew for every query.
+// A plain index: a map of samples, of which every query measures and sorts all.
 use card::Card;
 use hits::Hit;
 use index::refusal::Refusal;
 use metric::Metric;
 use std::alloc::{AllocError, Global};
+use std::collections::BTreeMap;
 
 #[derive(Drop)]
 pub struct Model {
     heap: Global,
     capacity: usize,
     last: u16,
-    standing: Vec<(u16, Card)>,
+    standing: BTreeMap<u16, Card>,
 }
 
 impl Model {
@@ -19,7 +20,7 @@ impl Model {
             heap,
             capacity,
             last: 0,
-            standing: Vec::new(heap),
+            standing: BTreeMap::new(heap),
         }
     }
 
@@ -27,39 +28,26 @@ impl Model {
         if self.standing.len() >= self.capacity {
             return Ok(Err(Refusal::Full));
         }
-        match self.last.checked_add(1) {
-            Some(number) => {
-                self.standing.push((number, e))?;
-                self.last = number;
-                Ok(Ok(number))
-            }
-            None => Ok(Err(Refusal::NumbersUsedUp)),
-        }
+        let Some(number) = self.last.checked_add(1) else {
+            return Ok(Err(Refusal::NumbersUsedUp));
+        };
+        self.standing.insert(number, e)?;
+        self.last = number;
+        Ok(Ok(number))
     }
 
-    pub fn drop(&mut self, number: u16) -> Result<Result<(), Refusal>, AllocError> {
-        let mut left = Vec::new(self.heap);
-        for sample in self.standing.iter() {
-            if sample.0 != number {
-                left.push(*sample)?;
-            }
+    pub fn drop(&mut self, number: u16) -> Result<(), Refusal> {
+        match self.standing.remove(&number) {
+            Some(_) => Ok(()),
+            None => Err(Refusal::NotStanding(number)),
         }
-        let found = left.len() < self.standing.len();
-        self.standing = left;
-        Ok(if found {
-            Ok(())
-        } else {
-            Err(Refusal::NotStanding(number))
-        })
     }
 
     pub fn element(&self, number: u16) -> Result<Card, Refusal> {
-        for sample in self.standing.iter() {
-            if sample.0 == number {
-                return Ok(sample.1);
-            }
+        match self.standing.get(&number) {
+            Some(e) => Ok(*e),
+            None => Err(Refusal::NotStanding(number)),
         }
-        Err(Refusal::NotStanding(number))
     }
 
     pub fn tally(&self) -> (usize, usize, u16) {
@@ -69,10 +57,10 @@ impl Model {
     // The distances and numbers of all samples at most `radius` away, in order.
     pub fn within(&self, q: &Card, radius: u32) -> Result<Vec<(u32, u16)>, AllocError> {
         let mut all = Vec::new(self.heap);
-        for sample in self.standing.iter() {
-            let distance = q.distance(&sample.1);
+        for (number, e) in self.standing.iter() {
+            let distance = q.distance(e);
             if distance <= radius {
-                all.push((distance, sample.0))?;
+                all.push((distance, *number))?;
             }
         }
         all.sort()?;

@@ -1,7 +1,8 @@
-use crate::beside::{Random, call_both};
+use crate::beside::call_both;
 use crate::model::Model;
 use card::Card;
 use hits::Hit;
+use rolls::Rolls;
 use scan::rows::Row;
 use scan::scan::Scan;
 use std::process::Abort;
@@ -12,14 +13,14 @@ fn scan_beside(rt: &(impl Abort + AllocGlobal), places: usize, seed: u32) -> Res
     let heap = rt.alloc();
     let mut rows = vec![in heap; Row::vacant(Card { slots: [0; 8] }); places]?;
     let mut model = Model::new(heap, places);
-    let mut random = Random::new(seed);
+    let mut rolls = Rolls::new(seed);
     let mut index = Scan::new(rows.as_mut_slice());
     for turn in 0..1500 {
         let mut list = vec![in heap; Hit {
             number: 0,
             distance: 0
         }; turn % 13]?;
-        call_both(rt, &mut index, &mut model, &mut random, list.as_mut_slice())?;
+        call_both(rt, &mut index, &mut model, &mut rolls, list.as_mut_slice())?;
     }
     Ok(())
 }

@@ -11,6 +11,7 @@ use index::index::Index;
 use index::refusal::Refusal;
 use links::Links;
 use roadmap::Roadmap;
+use rolls::Rolls;
 use std::alloc::{AllocError, Global};
 use std::cell::Cell;
 use std::process::Abort;
@@ -24,70 +25,50 @@ const HIT: Hit = Hit {
 
 const NUMBER: u16 = 60001;
 
-// A row of numbers that looks random.
-#[derive(Drop)]
-pub struct Random {
-    state: u32,
-}
-
-impl Random {
-    pub fn new(seed: u32) -> Random {
-        Random { state: seed }
-    }
-
-    pub fn below(&mut self, limit: u16) -> u16
-        requires { 0 < limit }
-        ensures { result < limit }
-    {
-        self.state = self.state.wrapping_mul(1664525).wrapping_add(1013904223);
-        ((self.state >> 16) % u32::from(limit)) as u16
-    }
-}
-
 // A spot of few places and marks, so that many are equal or at no distance.
-fn some_spot(random: &mut Random) -> Spot {
+fn some_spot(rolls: &mut Rolls) -> Spot {
     Spot {
-        place: random.below(7) as u8,
-        mark: random.below(4) as u8,
+        place: rolls.below(7) as u8,
+        mark: rolls.below(4) as u8,
     }
 }
 
 // A number that was given, or nearly.
-fn some_number(random: &mut Random, last: u16) -> u16 {
-    random.below(last.saturating_add(2))
+fn some_number(rolls: &mut Rolls, last: u16) -> u16 {
+    rolls.below(u32::from(last.saturating_add(2))) as u16
 }
 
-fn some_call<'a>(random: &mut Random, last: u16, asked: &'a Cell<u32>) -> Call<Spot, Picky<'a>>
+fn some_call<'a>(rolls: &mut Rolls, last: u16, asked: &'a Cell<u32>) -> Call<Spot, Picky<'a>>
     ensures { (hit_places result ≤ 12) × (number_places result ≤ 12) }
 {
-    let spot = some_spot(random);
-    let number = some_number(random, last);
-    let places = random.below(13) as usize;
-    match random.below(14) {
+    let spot = some_spot(rolls);
+    let number = some_number(rolls, last);
+    let places = rolls.below(13) as usize;
+    match rolls.below(14) {
         0..4 => {
-            let salt = random.below(4) as u8;
+            let salt = rolls.below(4) as u8;
             Call::Add(spot, Picky { salt, asked })
         }
         4 => Call::Drop(number),
         5 => Call::Element(number),
         6 => Call::Tally,
-        7 => Call::Near(spot, random.below(9) as usize, places),
-        8 => Call::Within(spot, u32::from(random.below(8)), places),
+        7 => Call::Near(spot, rolls.below(9) as usize, places),
+        8 => Call::Within(spot, rolls.below(8), places),
         9..11 => Call::Island(number),
-        _ => Call::Route(number, some_number(random, last), places),
+        _ => Call::Route(number, some_number(rolls, last), places),
     }
 }
 
 // What a call is to answer, what it is to write, and how often the checker is to be asked.
 #[derive(Drop)]
 struct Expected {
-    answer: Answer<Spot>,
+    answer: Result<Answer<Spot>, Refusal>,
     hits: Vec<Hit>,
     numbers: Vec<u16>,
     asked: u32,
 }
 
-fn plain(heap: Global, answer: Answer<Spot>) -> Expected {
+fn plain(heap: Global, answer: Result<Answer<Spot>, Refusal>) -> Expected {
     Expected {
         answer,
         hits: Vec::new(heap),
@@ -100,12 +81,12 @@ fn expect_add(heap: Global, model: &mut Model, e: Spot, salt: u8) -> Result<Expe
     let (_, standing, _) = model.tally();
     Ok(match model.add(e, salt)? {
         Ok((number, edges)) => Expected {
-            answer: Answer::Added(number, edges),
+            answer: Ok(Answer::Added(number, edges)),
             hits: Vec::new(heap),
             numbers: Vec::new(heap),
             asked: standing.min(model.k()).min(8) as u32,
         },
-        Err(refusal) => plain(heap, Answer::Refused(refusal)),
+        Err(refusal) => plain(heap, Err(refusal)),
     })
 }
 
@@ -120,7 +101,7 @@ fn expect_hits(
         hits.push(*hit)?;
     }
     Ok(Expected {
-        answer,
+        answer: Ok(answer),
         hits,
         numbers: Vec::new(heap),
         asked: 0,
@@ -135,7 +116,7 @@ fn expect_near(
     places: usize,
 ) -> Result<Expected, AllocError> {
     if k == 0 || k > places {
-        return Ok(plain(heap, Answer::Refused(Refusal::HitCount)));
+        return Ok(plain(heap, Err(Refusal::HitCount)));
     }
     let all = model.within(q, u32::MAX)?;
     expect_hits(heap, Answer::Near(k.min(all.len())), all.as_slice(), k)
@@ -150,17 +131,17 @@ fn expect_route(
 ) -> Result<Expected, AllocError> {
     let chain = match model.route(a, b)? {
         Ok(chain) => chain,
-        Err(refusal) => return Ok(plain(heap, Answer::Refused(refusal))),
+        Err(refusal) => return Ok(plain(heap, Err(refusal))),
     };
     if places < chain.count as usize {
-        return Ok(plain(heap, Answer::Refused(Refusal::ShortList(chain.count))));
+        return Ok(plain(heap, Err(Refusal::ShortList(chain.count))));
     }
     let mut numbers = Vec::new(heap);
     for number in chain.numbers.iter().take(chain.count as usize) {
         numbers.push(*number)?;
     }
     Ok(Expected {
-        answer: Answer::Route(chain.length, chain.count),
+        answer: Ok(Answer::Route(chain.length, chain.count)),
         hits: Vec::new(heap),
         numbers,
         asked: 0,
@@ -174,27 +155,21 @@ fn expect(
 ) -> Result<Expected, AllocError> {
     match call {
         Call::Add(e, checker) => expect_add(heap, model, *e, checker.salt),
-        Call::Drop(number) => Ok(match model.drop(*number)? {
-            Ok(()) => plain(heap, Answer::Dropped),
-            Err(refusal) => plain(heap, Answer::Refused(refusal)),
-        }),
-        Call::Element(number) => Ok(match model.element(*number) {
-            Some(e) => plain(heap, Answer::Element(e)),
-            None => plain(heap, Answer::Refused(Refusal::NotStanding(*number))),
-        }),
+        Call::Drop(number) => {
+            let dropped = model.drop(*number)?;
+            Ok(plain(heap, dropped.map(|_| Answer::Dropped)))
+        }
+        Call::Element(number) => Ok(plain(heap, model.element(*number).map(Answer::Element))),
         Call::Tally => {
             let (capacity, standing, last) = model.tally();
-            Ok(plain(heap, Answer::Tally(capacity, standing, last)))
+            Ok(plain(heap, Ok(Answer::Tally(capacity, standing, last))))
         }
         Call::Near(q, k, places) => expect_near(heap, model, q, *k, *places),
         Call::Within(q, radius, places) => {
             let all = model.within(q, *radius)?;
             expect_hits(heap, Answer::Within(all.len()), all.as_slice(), *places)
         }
-        Call::Island(number) => Ok(match model.island(*number)? {
-            Ok(smallest) => plain(heap, Answer::Island(smallest)),
-            Err(refusal) => plain(heap, Answer::Refused(refusal)),
-        }),
+        Call::Island(number) => Ok(plain(heap, model.island(*number)?.map(Answer::Island))),
         Call::Route(a, b, places) => expect_route(heap, model, *a, *b, *places),
     }
 }
@@ -219,7 +194,7 @@ fn turn<'a, I: Index<Element = Spot> + Drop>(
     heap: Global,
     road: &mut Roadmap<'a, I>,
     model: &mut Model,
-    random: &mut Random,
+    rolls: &mut Rolls,
     list: &mut [Hit],
     numbers: &mut [u16],
 ) -> Result<(), Fail>
@@ -229,7 +204,7 @@ fn turn<'a, I: Index<Element = Spot> + Drop>(
 {
     let asked = Cell::new(0);
     let (_, _, last) = model.tally();
-    let call = some_call(random, last, &asked);
+    let call = some_call(rolls, last, &asked);
     list.fill(HIT);
     numbers.fill(NUMBER);
     let answer = ask(road, &call, list, numbers);
@@ -253,7 +228,7 @@ pub fn beside<I: Index<Element = Spot> + Drop>(
 {
     let (capacity, _, _) = index.tally();
     let mut model = Model::new(heap, capacity, k as usize);
-    let mut random = Random::new(seed);
+    let mut rolls = Rolls::new(seed);
     let mut list = [HIT; 12];
     let mut numbers = [NUMBER; 12];
     let mut links = vec![in heap; Links::unlinked(0); capacity]?;
@@ -267,7 +242,7 @@ pub fn beside<I: Index<Element = Spot> + Drop>(
             heap,
             &mut road,
             &mut model,
-            &mut random,
+            &mut rolls,
             &mut list,
             &mut numbers,
         )?;

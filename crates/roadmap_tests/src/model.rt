@@ -1,10 +1,11 @@
-// A plain roadmap: a list of samples, sorted anew for every query, and a list of pairs. Islands are flooded, and
+// A plain roadmap: a map of samples, sorted anew for every query, and a list of pairs. Islands are flooded, and
 // of all chains to a goal the best is kept whole for every sample.
 use crate::kind::{Spot, suit};
 use hits::Hit;
 use index::refusal::Refusal;
 use metric::Metric;
 use std::alloc::{AllocError, Global};
+use std::collections::BTreeMap;
 
 // The most samples of a chain, more than ever stand in the tests.
 pub const MOST: usize = 16;
@@ -23,31 +24,19 @@ pub struct Model {
     capacity: usize,
     k: usize,
     last: u16,
-    standing: Vec<(u16, Spot)>,
+    standing: BTreeMap<u16, Spot>,
     edges: Vec<(u16, u16)>,
 }
 
 // The chain with one more sample in front.
 fn prepend(number: u16, apart: u32, chain: &Chain) -> Chain {
     let mut numbers = [number; 16];
-    for i in 1..16 {
-        numbers[i] = chain.numbers[i - 1];
-    }
+    numbers[1..].copy_from_slice(&chain.numbers[..15]);
     Chain {
         length: chain.length.saturating_add(apart),
         count: chain.count.saturating_add(1),
         numbers,
     }
-}
-
-// The chain that was found from this sample.
-fn chain_from(found: &[(u16, Chain)], number: u16) -> Option<Chain> {
-    for (from, chain) in found {
-        if *from == number {
-            return Some(*chain);
-        }
-    }
-    None
 }
 
 // The other end of an edge.
@@ -63,10 +52,7 @@ fn across(edge: (u16, u16), number: u16) -> Option<u16> {
 
 // The better of two chains.
 fn better(best: Option<Chain>, other: Chain) -> Chain {
-    match best {
-        Some(chain) => chain.min(other),
-        None => other,
-    }
+    best.map_or(other, |chain| chain.min(other))
 }
 
 impl Model {
@@ -76,7 +62,7 @@ impl Model {
             capacity,
             k,
             last: 0,
-            standing: Vec::new(heap),
+            standing: BTreeMap::new(heap),
             edges: Vec::new(heap),
         }
     }
@@ -89,13 +75,11 @@ impl Model {
         self.k
     }
 
-    pub fn element(&self, number: u16) -> Option<Spot> {
-        for (own, spot) in self.standing.iter() {
-            if *own == number {
-                return Some(*spot);
-            }
+    pub fn element(&self, number: u16) -> Result<Spot, Refusal> {
+        match self.standing.get(&number) {
+            Some(spot) => Ok(*spot),
+            None => Err(Refusal::NotStanding(number)),
         }
-        None
     }
 
     // All hits at most `radius` away, in order.
@@ -130,27 +114,21 @@ impl Model {
         let mut edges: u8 = 0;
         let hits = self.within(&e, u32::MAX)?;
         for hit in hits.iter().take(self.k) {
-            if let Some(elder) = self.element(hit.number) {
+            if let Ok(elder) = self.element(hit.number) {
                 if suit(salt, &elder, &e) {
                     self.edges.push((hit.number, number))?;
                     edges = edges.saturating_add(1);
                 }
             }
         }
-        self.standing.push((number, e))?;
+        self.standing.insert(number, e)?;
         self.last = number;
         Ok(Ok((number, edges)))
     }
 
     pub fn drop(&mut self, number: u16) -> Result<Result<(), Refusal>, AllocError> {
-        if self.element(number).is_none() {
+        if self.standing.remove(&number).is_none() {
             return Ok(Err(Refusal::NotStanding(number)));
-        }
-        let mut standing = Vec::new(self.heap);
-        for sample in self.standing.iter() {
-            if sample.0 != number {
-                standing.push(*sample)?;
-            }
         }
         let mut edges = Vec::new(self.heap);
         for edge in self.edges.iter() {
@@ -158,7 +136,6 @@ impl Model {
                 edges.push(*edge)?;
             }
         }
-        self.standing = standing;
         self.edges = edges;
         Ok(Ok(()))
     }
@@ -177,31 +154,28 @@ impl Model {
     }
 
     pub fn island(&self, number: u16) -> Result<Result<u16, Refusal>, AllocError> {
-        if self.element(number).is_none() {
-            return Ok(Err(Refusal::NotStanding(number)));
+        if let Err(refusal) = self.element(number) {
+            return Ok(Err(refusal));
         }
         let mut reached = Vec::new(self.heap);
         reached.push(number)?;
         for _ in 0..MOST {
             self.flooded(&mut reached)?;
         }
-        let mut smallest = number;
-        for other in reached.iter() {
-            smallest = smallest.min(*other);
-        }
-        Ok(Ok(smallest))
+        Ok(Ok(
+            reached
+                .iter()
+                .fold(number, |least, other| least.min(*other)),
+        ))
     }
 
     // The best chain from this sample to the goal, by one edge more than those found.
-    fn best_from(&self, own: u16, spot: &Spot, found: &[(u16, Chain)]) -> Option<Chain> {
-        let mut best = chain_from(found, own);
+    fn best_from(&self, own: u16, spot: &Spot, found: &BTreeMap<u16, Chain>) -> Option<Chain> {
+        let mut best = found.get(&own).copied();
         for edge in self.edges.iter() {
             if let Some(other) = across(*edge, own) {
-                if let (Some(chain), Some(there)) = (
-                    chain_from(found, other),
-                    self.element(other),
-                ) {
-                    best = Some(better(best, prepend(own, spot.distance(&there), &chain)));
+                if let (Some(chain), Ok(there)) = (found.get(&other), self.element(other)) {
+                    best = Some(better(best, prepend(own, spot.distance(&there), chain)));
                 }
             }
         }
@@ -209,11 +183,11 @@ impl Model {
     }
 
     // The best chain from each sample to the goal, by one edge more.
-    fn longer(&self, found: &[(u16, Chain)]) -> Result<Vec<(u16, Chain)>, AllocError> {
-        let mut next = Vec::new(self.heap);
+    fn longer(&self, found: &BTreeMap<u16, Chain>) -> Result<BTreeMap<u16, Chain>, AllocError> {
+        let mut next = BTreeMap::new(self.heap);
         for (own, spot) in self.standing.iter() {
             if let Some(chain) = self.best_from(*own, spot, found) {
-                next.push((*own, chain))?;
+                next.insert(*own, chain)?;
             }
         }
         Ok(next)
@@ -221,24 +195,19 @@ impl Model {
 
     // The chosen chain between two samples.
     pub fn route(&self, a: u16, b: u16) -> Result<Result<Chain, Refusal>, AllocError> {
-        if self.element(a).is_none() {
-            return Ok(Err(Refusal::NotStanding(a)));
-        }
-        if self.element(b).is_none() {
-            return Ok(Err(Refusal::NotStanding(b)));
+        if let Err(refusal) = self.element(a).and(self.element(b)) {
+            return Ok(Err(refusal));
         }
         let goal = Chain {
             length: 0,
             count: 1,
             numbers: [b; 16],
         };
-        let mut found = vec![in self.heap; (b, goal)]?;
+        let mut found = BTreeMap::new(self.heap);
+        found.insert(b, goal)?;
         for _ in 0..MOST {
-            found = self.longer(found.as_slice())?;
+            found = self.longer(&found)?;
         }
-        Ok(match chain_from(found.as_slice(), a) {
-            Some(chain) => Ok(chain),
-            None => Err(Refusal::NotJoined),
-        })
+        Ok(found.get(&a).copied().ok_or(Refusal::NotJoined))
     }
 }

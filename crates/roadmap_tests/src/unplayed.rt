@@ -3,6 +3,7 @@ use crate::kind::{Picky, Spot};
 use checker::Checker;
 use history::{Answer, Call, Unplayed, compare_fitting};
 use hits::Hit;
+use index::refusal::Refusal;
 use links::Links;
 use roadmap::Unmade;
 use scan::rows::Row;
@@ -74,8 +75,8 @@ fn played<C: Checker<Spot> + Copy>(
     let mut copies = vec![in heap; HIT; places.copies]?;
     let mut numbers = vec![in heap; 9; places.numbers]?;
     let mut twins = vec![in heap; 9; places.twins]?;
-    let mut answers = vec![in heap; Answer::Dropped; places.answers]?;
-    let mut again = vec![in heap; Answer::Dropped; places.again]?;
+    let mut answers = vec![in heap; Ok(Answer::Dropped); places.answers]?;
+    let mut again = vec![in heap; Ok(Answer::Dropped); places.again]?;
     let result = compare_fitting(
         Scan::new(rows.as_mut_slice()),
         Scan::new(others.as_mut_slice()),
@@ -99,7 +100,12 @@ fn played<C: Checker<Spot> + Copy>(
 }
 
 // The lists hold what they held.
-fn untouched(rt: &impl Abort, hits: &[Hit], numbers: &[u16], answers: &[Answer<Spot>]) {
+fn untouched(
+    rt: &impl Abort,
+    hits: &[Hit],
+    numbers: &[u16],
+    answers: &[Result<Answer<Spot>, Refusal>],
+) {
     for hit in hits {
         assert_eq!(rt; *hit, HIT);
     }
@@ -107,7 +113,7 @@ fn untouched(rt: &impl Abort, hits: &[Hit], numbers: &[u16], answers: &[Answer<S
         assert_eq!(rt; *number, 9);
     }
     for answer in answers {
-        assert_eq!(rt; *answer, Answer::Dropped);
+        assert_eq!(rt; *answer, Ok(Answer::Dropped));
     }
 }
 

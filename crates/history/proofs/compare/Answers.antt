@@ -1,4 +1,5 @@
 use Rattle.std.proofs.Common.{◌≡◌, ℕ, ◌≤◌, sym, refl, ap, subst, inl, inr, arith}
+use Rattle.std.proofs.lemmas.Result.{err_from_is_err_and}
 use Rattle.roadmap.specs.Roads.{road_of}
 use Rattle.history_theory.specs.History.{start}
 use Rattle.history.specs.Turns.{Lent, lent, Ran}
@@ -9,18 +10,18 @@ use Rattle.history.proofs.compare.Goals as goal
 pub returns : goal.returns
 returns g c =
     let dist = g.I.Element.Metric.dist in
-    let a = c.in-Ok.ensures in
-    let b = c.in-Ok-new.ensures in
+    let a = c.in_ok-one.ensures in
+    let b = c.in_ok-two.ensures in
     record {
       judged = (c.if-answers-calls.false, c.if-again-others.false, a.0, a.1, a.2, b.2);
       kept = λ u e. absurd (let z : ◌≡◌ {A = ℕ} 0 1 = cc in omega arith);
       law = λ ok size x y s e f.
           let small : size ≤ 1024 = omega (arith, ap (λ z. z.capacity) x, (g.I.Index.lawful c.args.first c.requires.0).capacity_bound) in
           let same : lent c.args.copy.now c.args.twins.now ≡ lent c.args.list.now c.args.numbers.now = (λ i. lent (sym e i) (sym f i)) in
-          let P : Lent → Type 0 = λ z. Ran dist g.D.Checker.passes (road_of g.J.Index.meaning c.in-Ok-new.road) c.args.others.now z c.run-2.new.answers (lent c.run-2.new.list c.run-2.new.numbers) (road_of g.J.Index.meaning c.run-2.new.road) in
-          whole dist g.I.Element.Metric.top g.I.Element.Metric.laws g.C.Checker.passes g.C.Checker.symmetric g.D.Checker.passes g.D.Checker.symmetric (start c.args.k size) (road_of g.I.Index.meaning c.in-Ok.road) (road_of g.J.Index.meaning c.in-Ok-new.road) _ _ c.args.calls.now c.args.others.now (lent c.args.list.now c.args.numbers.now) (lent c.run.new.list c.run.new.numbers) (lent c.run-2.new.list c.run-2.new.numbers) c.run.new.answers c.run-2.new.answers
-          (reached_new dist c.args.k size small (road_of g.I.Index.meaning c.in-Ok.road) (g.I.Index.meaning c.args.first) a.4 x)
-          (reached_new dist c.args.k size small (road_of g.J.Index.meaning c.in-Ok-new.road) (g.J.Index.meaning c.args.second) b.4 y)
+          let P : Lent → Type 0 = λ z. Ran dist g.D.Checker.passes (road_of g.J.Index.meaning c.in_ok-two.two) c.args.others.now z c.run-2.new.answers (lent c.run-2.new.list c.run-2.new.numbers) (road_of g.J.Index.meaning c.run-2.new.road) in
+          whole dist g.I.Element.Metric.top g.I.Element.Metric.laws g.C.Checker.passes g.C.Checker.symmetric g.D.Checker.passes g.D.Checker.symmetric (start c.args.k size) (road_of g.I.Index.meaning c.in_ok-one.one) (road_of g.J.Index.meaning c.in_ok-two.two) _ _ c.args.calls.now c.args.others.now (lent c.args.list.now c.args.numbers.now) (lent c.run.new.list c.run.new.numbers) (lent c.run-2.new.list c.run-2.new.numbers) c.run.new.answers c.run-2.new.answers
+          (reached_new dist c.args.k size small (road_of g.I.Index.meaning c.in_ok-one.one) (g.I.Index.meaning c.args.first) a.4 x)
+          (reached_new dist c.args.k size small (road_of g.J.Index.meaning c.in_ok-two.two) (g.J.Index.meaning c.args.second) b.4 y)
           s c.run.ensures.ran (subst P same c.run-2.ensures.ran);
     }
 
@@ -38,16 +39,21 @@ returns-then-again-others g c = record {
   law = λ ok. absurd (let z : ◌≡◌ {A = ℕ} 0 1 = cc in omega arith);
 }
 
-pub returns-in-Err : goal.returns-in-Err
-returns-in-Err g c = record {
-  judged = judged_first g.I.Index.sound g.I.Index.meaning c.args.first c.args.k _ _ _ _ _ _ _ c.in-Err.unmade c.if-answers-calls.false c.if-again-others.false c.in-Err.ensures;
-  kept = λ u e. (refl, refl, refl, refl, refl, refl);
-  law = λ ok. absurd (let z : ◌≡◌ {A = ℕ} 0 1 = cc in omega arith);
-}
+pub returns-in_err-one : goal.returns-in_err-one
+returns-in_err-one g c =
+    let p = err_from_is_err_and c.from_residual.result c.from_residual.ensures.1 in
+    rw (p.1, p.2) (record {
+      judged = judged_first g.I.Index.sound g.I.Index.meaning c.args.first c.args.k _ _ _ _ _ _ _ c.in_err-one.field-0.0 c.if-answers-calls.false c.if-again-others.false c.in_err-one.ensures;
+      kept = λ u e. (refl, refl, refl, refl, refl, refl);
+      law = λ ok. absurd (let z : ◌≡◌ {A = ℕ} 0 1 = cc in omega arith);
+    })
 
-pub returns-in-Err-new : goal.returns-in-Err-new
-returns-in-Err-new g c = let a = c.in-Ok.ensures in record {
-  judged = judged_second g.J.Index.sound g.J.Index.meaning c.args.second c.args.k _ _ _ _ _ _ _ c.in-Err-new.unmade c.if-answers-calls.false c.if-again-others.false a.2 c.in-Err-new.ensures;
-  kept = λ u e. (refl, refl, refl, refl, refl, refl);
-  law = λ ok. absurd (let z : ◌≡◌ {A = ℕ} 0 1 = cc in omega arith);
-}
+pub returns-in_err-two : goal.returns-in_err-two
+returns-in_err-two g c =
+    let a = c.in_ok-one.ensures in
+    let p = err_from_is_err_and c.from_residual-in_err-two.result c.from_residual-in_err-two.ensures.1 in
+    rw (p.1, p.2) (record {
+      judged = judged_second g.J.Index.sound g.J.Index.meaning c.args.second c.args.k _ _ _ _ _ _ _ c.in_err-two.field-0.0 c.if-answers-calls.false c.if-again-others.false a.2 c.in_err-two.ensures;
+      kept = λ u e. (refl, refl, refl, refl, refl, refl);
+      law = λ ok. absurd (let z : ◌≡◌ {A = ℕ} 0 1 = cc in omega arith);
+    })

@@ -2,6 +2,7 @@
 use arm::Arm;
 use card::Card;
 use card_checker::CardWall;
+use rolls::Rolls;
 use walls::{Arc, Wall};
 
 // Angles and extents at the edges of the rules.
@@ -10,28 +11,29 @@ const EDGES: [u16; 16] = [
 ];
 
 #[derive(Drop)]
-pub struct Rolls {
-    pub state: u32,
+pub struct Cases {
+    rolls: Rolls,
 }
 
-impl Rolls {
-    fn next(&mut self) -> u32 {
-        self.state = self.state.wrapping_mul(1664525).wrapping_add(1013904223);
-        self.state >> 16
+impl Cases {
+    pub fn new(seed: u32) -> Cases {
+        Cases {
+            rolls: Rolls::new(seed),
+        }
     }
 
     // One of the edges, or any number.
     fn number(&mut self) -> u16 {
-        let n = self.next();
+        let n = self.rolls.next();
         if n % 2 == 0 {
             EDGES[(n / 2 % 16) as usize]
         } else {
-            (self.next() % 65536) as u16
+            (self.rolls.next() % 65536) as u16
         }
     }
 
     pub fn arc(&mut self) -> Arc {
-        if self.next() % 2 == 0 {
+        if self.rolls.next() % 2 == 0 {
             return Arc {
                 start: 0,
                 extent: 4095,
@@ -71,10 +73,10 @@ impl Rolls {
 
     // A slot's value: few of them, so that slots agree often.
     fn slot(&mut self) -> u8 {
-        if self.next() % 4 == 0 {
+        if self.rolls.next() % 4 == 0 {
             255
         } else {
-            (self.next() % 2) as u8
+            (self.rolls.next() % 2) as u8
         }
     }
 

@@ -1,11 +1,13 @@
-// One call of an index, told in plain words.
+// Calls of an index, told in plain words.
+#![tactic(auto)]
+
 use hits::Hit;
 use index::index::Index;
 use index::refusal::Refusal;
 use std::fmt::Debug;
 use std::io;
 
-fn tell_refusal(rt: &HostRuntime, refusal: Refusal) -> io::Result<()> {
+pub fn tell_refusal(rt: &HostRuntime, refusal: Refusal) -> io::Result<()> {
     let number = refusal.number();
     println!(rt; "refused by {number}: {refusal}")
 }
