@@ -81,9 +81,8 @@ pub fn play_on<I: Index + Drop, C: Checker<I::Element> + Copy>(
     let mut end = 0;
     for (i, line) in lines.iter().enumerate() {
         let call = call_of(line, &checker);
-        end = answer_call(&mut road, &call, &mut hits, &mut numbers, &mut output).ok_or(OutputFull(
-            i,
-        ))?;
+        let answered = answer_call(&mut road, &call, &mut hits, &mut numbers, &mut output);
+        end = answered.ok_or(OutputFull(i))?;
     }
     Ok(end)
 }

@@ -29,20 +29,20 @@ pub returns-in_err-end : goal.returns-in_err-end
 returns-in_err-end g c =
     let made = err_from_is_err_and c.from_residual.result c.from_residual.ensures.1 in
     let P : List ℕ → Type 0 = λ o. Answered g.I.Element.Metric.dist (start c.args.k 64) (map (λ line. set_call g.C.Checker.passes (line_call line c.args.checker)) c.args.lines.now) blank_lists 0 0 c.args.out.now (told_calls c.from_residual.result) o in
-    subst P {x = c.answer_call.new.out.bytes.now} (search rules) (rw (made.1, made.2) (step_full g.I.Element.Metric.dist g.I.Element.Metric.top g.I.Element.Metric.laws g.C.Checker.passes g.C.Checker.symmetric c.args.checker _
-    c.args.lines.now c.index-lines-i.result c.loop-i.i c.loop-i.end c.call_of-call.result _ _ (lent c.loop-i.hits c.loop-i.numbers) _ c.loop-i.output.bytes.now _ c.loop-i-test.true c.index-lines-i.is c.call_of-call.ensures c.answer_call.result c.loop-i.output.len _ c.in_err-end.field-0.0 c.loop-i.invariant.end (sym c.ok_or.ensures.value ∙ c.in_err-end.was) refl c.answer_call.ensures.answers c.loop-i.invariant.going))
+    subst P {x = c.answer_call-answered.new.out.bytes.now} (search rules) (rw (made.1, made.2) (step_full g.I.Element.Metric.dist g.I.Element.Metric.top g.I.Element.Metric.laws g.C.Checker.passes g.C.Checker.symmetric c.args.checker _
+    c.args.lines.now c.index-lines-i.result c.loop-i.i c.loop-i.end c.call_of-call.result _ _ (lent c.loop-i.hits c.loop-i.numbers) _ c.loop-i.output.bytes.now _ c.loop-i-test.true c.index-lines-i.is c.call_of-call.ensures c.answer_call-answered.result c.loop-i.output.len _ c.in_err-end.field-0.0 c.loop-i.invariant.end (sym c.ok_or.ensures.value ∙ c.in_err-end.was) refl c.answer_call-answered.ensures.answers c.loop-i.invariant.going))
 
 pub loop-i-preserved : goal.loop-i-preserved
 loop-i-preserved g c =
-    let x = c.answer_call.ensures in
+    let x = c.answer_call-answered.ensures in
     let was = sym c.ok_or.ensures.value ∙ c.in_ok-end.was in
     record {
-      places = (c.answer_call.auto.hits ∙ c.loop-i.invariant.places.0, c.answer_call.auto.numbers ∙ c.loop-i.invariant.places.1);
+      places = (c.answer_call-answered.auto.hits ∙ c.loop-i.invariant.places.0, c.answer_call-answered.auto.numbers ∙ c.loop-i.invariant.places.1);
       same_reference = x.same_reference ∙ c.loop-i.invariant.same_reference;
-      end = kept_end c.answer_call.result _ c.loop-i.output.len c.answer_call.new.out.len c.in_ok-end.end was x.len;
+      end = kept_end c.answer_call-answered.result _ c.loop-i.output.len c.answer_call-answered.new.out.len c.in_ok-end.end was x.len;
       sound = x.stays;
       going = step_more g.I.Element.Metric.dist g.I.Element.Metric.top g.I.Element.Metric.laws g.C.Checker.passes g.C.Checker.symmetric c.args.checker _
-          c.args.lines.now c.index-lines-i.result c.loop-i.i c.loop-i.end c.call_of-call.result _ _ (lent c.loop-i.hits c.loop-i.numbers) _ c.loop-i.output.bytes.now _ c.loop-i-test.true c.index-lines-i.is c.call_of-call.ensures c.answer_call.result c.loop-i.output.len c.in_ok-end.end _ c.loop-i.invariant.end was x.answers c.loop-i.invariant.going;
+          c.args.lines.now c.index-lines-i.result c.loop-i.i c.loop-i.end c.call_of-call.result _ _ (lent c.loop-i.hits c.loop-i.numbers) _ c.loop-i.output.bytes.now _ c.loop-i-test.true c.index-lines-i.is c.call_of-call.ensures c.answer_call-answered.result c.loop-i.output.len c.in_ok-end.end _ c.loop-i.invariant.end was x.answers c.loop-i.invariant.going;
     }
 
 pub returns : goal.returns
