@@ -1,80 +1,85 @@
 // The line that answers a call, written into an output.
-ghost use Rattle.std.specs.Prelude.{◌≡◌, ◌≤◌, length};
+ghost use Rattle.std.specs.Prelude.{◌≡◌, ◌≤◌, length, MatchOption};
 ghost use Rattle.history.specs.Turns.{lent, reply};
 ghost use Rattle.printing.specs.Outputs.{put_outcome, put_leaves};
-ghost use Rattle.answers.specs.Listing.{listed};
 ghost use Rattle.answers.specs.AnswerLines.{reply_word, dropped_by, reply_numbers, answer_line};
 
-use crate::numbers::Numbers;
+use crate::numbers::{push_hits, push_list};
+use arrayvec::ArrayVec;
 use history::{Answer, Call};
 use hits::Hit;
-use printing::put_line;
+use index::refusal::Refusal;
+use printing::Output;
 
 // The line's first word.
-fn word_of<E>(answer: &Answer<E>) -> &'static [u8]
-    ensures { result.now ≡ reply_word (reply answer.now) }
+fn word_of<E>(answer: &Result<Answer<E>, Refusal>) -> &'static [u8]
+    ensures word { result.now ≡ reply_word (reply answer.now) }
+    ensures short { length result.now ≤ 128 }
 {
     match answer {
-        Answer::Added(_, _) => b"a",
-        Answer::Dropped => b"d",
-        Answer::Element(_) | Answer::Tally(_, _, _) => b"",
-        Answer::Near(_) => b"n",
-        Answer::Within(_) => b"w",
-        Answer::Island(_) => b"i",
-        Answer::Route(_, _) => b"r",
-        Answer::Refused(_) => b"refused",
+        Ok(Answer::Added(_, _)) => b"a",
+        Ok(Answer::Dropped) => b"d",
+        Ok(Answer::Element(_) | Answer::Tally(_, _, _)) => b"",
+        Ok(Answer::Near(_)) => b"n",
+        Ok(Answer::Within(_)) => b"w",
+        Ok(Answer::Island(_)) => b"i",
+        Ok(Answer::Route(_, _)) => b"r",
+        Err(_) => b"refused",
     }
 }
 
-// The numbers behind it.
-fn numbers_of<E, C>(call: &Call<E, C>, answer: &Answer<E>, hits: &[Hit], list: &[u16]) -> Numbers
+// The numbers behind it. The longest line is a route's: its length, its count and 64 numbers.
+fn numbers_of<E, C>(
+    call: &Call<E, C>,
+    answer: &Result<Answer<E>, Refusal>,
+    hits: &[Hit],
+    list: &[u16],
+) -> ArrayVec<usize, 66>
     requires { (length hits.now ≤ 16) × (length list.now ≤ 64) }
-    ensures few { result.len ≤ 66 }
-    ensures places { length result.values ≡ 66 }
-    ensures numbers { listed result ≡ reply_numbers call.now (reply answer.now) (lent hits.now list.now) }
+    ensures { result.items ≡ reply_numbers call.now (reply answer.now) (lent hits.now list.now) }
 {
-    let mut numbers = Numbers::new();
+    let mut numbers = ArrayVec::new();
     match answer {
-        Answer::Added(number, edges) => {
+        Ok(Answer::Added(number, edges)) => {
             numbers.push(usize::from(*number));
             numbers.push(usize::from(*edges));
         }
-        Answer::Dropped => {
+        Ok(Answer::Dropped) => {
             if let Call::Drop(number) = call {
                 numbers.push(usize::from(*number));
             }
         }
-        Answer::Element(_) | Answer::Tally(_, _, _) => {}
-        Answer::Near(count) | Answer::Within(count) => {
+        Ok(Answer::Element(_) | Answer::Tally(_, _, _)) => {}
+        Ok(Answer::Near(count) | Answer::Within(count)) => {
             numbers.push(*count);
-            numbers.push_hits(hits, *count);
+            push_hits(&mut numbers, hits, *count);
         }
-        Answer::Island(number) => numbers.push(usize::from(*number)),
-        Answer::Route(length, count) => {
+        Ok(Answer::Island(number)) => numbers.push(usize::from(*number)),
+        Ok(Answer::Route(length, count)) => {
             numbers.push(*length as usize);
             numbers.push(usize::from(*count));
-            numbers.push_all(list, usize::from(*count));
+            push_list(&mut numbers, list, usize::from(*count));
         }
-        Answer::Refused(refusal) => numbers.push(usize::from(refusal.number())),
+        Err(refusal) => numbers.push(usize::from(refusal.number())),
     }
     numbers
 }
 
-// Writes the line that answers a call from `at` on, and returns where it ends. The lists are those that the call
-// was lent, as it left them. A line that does not fit is not begun.
+// Writes the line that answers a call, and returns where it ends. The lists are those that the call was lent, as
+// it left them. A line that does not fit is not begun.
 pub fn put_answer<E, C>(
-    out: &mut [u8],
-    at: usize,
+    out: &mut Output,
     call: &Call<E, C>,
-    answer: &Answer<E>,
+    answer: &Result<Answer<E>, Refusal>,
     hits: &[Hit],
     list: &[u16],
 ) -> Option<usize>
     requires { (length hits.now ≤ 16) × (length list.now ≤ 64) }
-    ensures answer { result ≡ put_outcome (length out.old) at (answer_line call.now (reply answer.now) (lent hits.now list.now)) }
-    ensures leaves { out.new ≡ put_leaves out.old at (answer_line call.now (reply answer.now) (lent hits.now list.now)) }
+    ensures same_reference { out.new.bytes.ghost_name ≡ out.old.bytes.ghost_name }
+    ensures answer { result ≡ put_outcome (length out.old.bytes.now) out.old.len (answer_line call.now (reply answer.now) (lent hits.now list.now)) }
+    ensures len { MatchOption result (out.new.len ≡ out.old.len) (λ end. out.new.len ≡ end) }
+    ensures leaves { out.new.bytes.now ≡ put_leaves out.old.bytes.now out.old.len (answer_line call.now (reply answer.now) (lent hits.now list.now)) }
 {
     let numbers = numbers_of(call, answer, hits, list);
-    let len = numbers.len;
-    put_line(out, at, word_of(answer), &numbers.values[0..len])
+    out.put_line(word_of(answer), numbers.as_slice())
 }

@@ -8,8 +8,7 @@ use Rattle.history_theory.specs.History.{History, Asked, then_asks}
 use Rattle.history_theory.proofs.Reaching.{Reached}
 use Rattle.history_theory.proofs.Going.{next}
 use Rattle.history.specs.declared.Call.{Call}
-use Rattle.history.specs.declared.Answer.{Answer}
-use Rattle.history.specs.Turns.{Lent, reply, asked, Does}
+use Rattle.history.specs.Turns.{Said, Lent, reply, asked, Does}
 use Rattle.history.specs.Law.{Turn}
 use Rattle.history.proofs.Playing.{fair, turn}
 use Rattle.printing.specs.Outputs.{written, fits_at}
@@ -27,7 +26,7 @@ module _ {E C : Type 0} (dist : E → E → ℕ) (top : ℕ) (laws : MetricLaws 
   pub going_done : (road : Road E) (l : Lent) (at lines : ℕ) (out : List ℕ) → Going dist AllAnswered [] road l at lines out → AllAnswered (gives at) out
   going_done road l at lines out g = g.back (gives at) out (refl, refl)
 
-  module _ (c : Call E C) (cs : List (Call E (Pairs E))) (road after : Road E) (l m : Lent) (at lines : ℕ) (out : List ℕ) (a : Answer E) (d : Does dist passes road c l a m after) where
+  module _ (c : Call E C) (cs : List (Call E (Pairs E))) (road after : Road E) (l m : Lent) (at lines : ℕ) (out : List ℕ) (a : Said E) (d : Does dist passes road c l a m after) where
     bytes : List ℕ
     bytes = answer_line c (reply a) m
 

@@ -5,8 +5,7 @@ use Rattle.printing.specs.Outputs.{word_line}
 use Rattle.answers.specs.AnswerLines.{dropped_by, answer_line}
 use Rattle.history.specs.declared.Call.{Call}
 use Rattle.history.specs.declared.Call.TheVariants as call
-use Rattle.history.specs.declared.Answer.{Answer}
-use Rattle.history.specs.Turns.{Lent, asked}
+use Rattle.history.specs.Turns.{Said, Lent, asked}
 use Rattle.history.specs.Law.{Turn}
 use Rattle.play_theory.specs.Answering.{itself, set_call}
 
@@ -21,7 +20,7 @@ module _ {E C : Type 0} (dist : E → E → ℕ) (passes : C → E → E → Boo
   asked_set (call.Island n) l = refl
   asked_set (call.Route a b places) l = refl
 
-  pub turn_set : (h : History E) (c : Call E C) (l m : Lent) (a : Answer E) → Turn dist passes h c l a m → Turn dist itself h (set_call passes c) l a m
+  pub turn_set : (h : History E) (c : Call E C) (l m : Lent) (a : Said E) → Turn dist passes h c l a m → Turn dist itself h (set_call passes c) l a m
   turn_set h (call.Add e c) l m a t = record { lists = t.lists; gives = t.gives; leaves = t.leaves; owed = t.owed }
   turn_set h (call.Drop n) l m a t = record { lists = t.lists; gives = t.gives; leaves = t.leaves; owed = t.owed }
   turn_set h (call.Element n) l m a t = record { lists = t.lists; gives = t.gives; leaves = t.leaves; owed = t.owed }

@@ -4,8 +4,7 @@ use Rattle.index.specs.Outcomes.{Outcome, gives, refuses}
 use Rattle.history_theory.specs.History.{History, then_asks}
 use Rattle.history.specs.declared.Call.{Call}
 use Rattle.history.specs.declared.Call.TheVariants as call
-use Rattle.history.specs.declared.Answer.{Answer}
-use Rattle.history.specs.Turns.{Lent, reply, asked}
+use Rattle.history.specs.Turns.{Said, Lent, reply, asked}
 use Rattle.history.specs.Law.{Turn}
 use Rattle.printing.specs.Outputs.{written, fits_at}
 use Rattle.answers.specs.AnswerLines.{answer_line}
@@ -34,7 +33,7 @@ module _ {E : Type 0} (dist : E → E → ℕ) where
   abbrev pub Answered : History E → List (Call E (Pairs E)) → Lent → ℕ → ℕ → List ℕ → Outcome ℕ → List ℕ → Type 0
   Answered h [] l at lines out o after = (o ≡ gives at) × (after ≡ out)
   Answered h (c ∷ cs) l at lines out o after =
-      (a : Answer E) × (m : Lent) × Turn dist itself h c l a m
+      (a : Said E) × (m : Lent) × Turn dist itself h c l a m
       × MatchBool (fits_at (length out) at (answer_line c (reply a) m))
       (Answered (then_asks h (asked itself c l)) cs m (at + length (answer_line c (reply a) m)) (lines + 1) (written out at (answer_line c (reply a) m)) o after)
       ((o ≡ refuses 11 (lines ∷ [])) × (after ≡ out))

@@ -4,8 +4,7 @@ use Rattle.index.specs.Outcomes.{Outcome, gives, refuses}
 use Rattle.roadmap.specs.Roads.{Road}
 use Rattle.history.specs.declared.Call.{Call}
 use Rattle.history.specs.declared.Call.TheVariants as call
-use Rattle.history.specs.declared.Answer.{Answer}
-use Rattle.history.specs.Turns.{Lent, lent, reply, Does}
+use Rattle.history.specs.Turns.{Said, Lent, lent, reply, Does}
 use Rattle.printing.specs.Outputs.{put_outcome, put_leaves}
 use Rattle.answers.specs.AnswerLines.{answer_line}
 use Rattle.lines.specs.declared.calls.CallLine.{CallLine}
@@ -32,7 +31,7 @@ told_calls (Err full) = refuses 11 (full.0 ∷ [])
 
 -- one call was made, and its line put
 pub record AnswersOne {E C : Type 0} (dist : E → E → ℕ) (passes : C → E → E → Bool) (road : Road E) (c : Call E C) (l : Lent) (out : List ℕ) (at : ℕ) (r : Option ℕ) (m : Lent) (out' : List ℕ) (after : Road E) : Type 0 where
-  pub answer : Answer E
+  pub answer : Said E
   pub does : Does dist passes road c l answer m after
   pub puts : r ≡ put_outcome (length out) at (answer_line c (reply answer) m)
   pub leaves : out' ≡ put_leaves out at (answer_line c (reply answer) m)

@@ -1,10 +1,9 @@
 // The calls of a level on a roadmap, each answered by a line in the output.
-ghost use Rattle.std.specs.Prelude.{◌≡◌, ℕ, ◌≤◌, map, length};
+ghost use Rattle.std.specs.Prelude.{◌≡◌, ℕ, ◌≤◌, map, length, MatchOption};
 ghost use Rattle.index.specs.Meaning.{fresh};
 ghost use Rattle.roadmap.specs.Roads.{road_of, RoadSound};
 ghost use Rattle.history_theory.specs.History.{start};
 ghost use Rattle.history.specs.Turns.{lent};
-ghost use Rattle.history.specs.Fitting.{hit_places, number_places};
 ghost use Rattle.play_theory.specs.Answering.{set_call, Answered};
 ghost use Rattle.player.specs.Calls.{line_call, blank_lists, told_calls, AnswersOne};
 
@@ -16,6 +15,7 @@ use index::index::Index;
 use lines::calls::CallLine;
 use links::Links;
 use metric::Metric;
+use printing::Output;
 use roadmap::Roadmap;
 
 // The line that comes next exceeds the output: so many whole lines are written.
@@ -36,23 +36,23 @@ fn call_of<E: Copy, C: Copy>(line: &CallLine<E>, checker: &C) -> Call<E, C>
     }
 }
 
-// Makes one call and writes its line from `at` on.
+// Makes one call and writes its line, and returns where it ends.
 fn answer_call<'a, I: Index + Drop, C: Checker<I::Element>>(
     road: &mut Roadmap<'a, I>,
     call: &Call<I::Element, C>,
     hits: &mut [Hit],
     numbers: &mut [u16],
-    out: &mut [u8],
-    at: usize,
+    out: &mut Output,
 ) -> Option<usize>
     requires sound { RoadSound I.Index.sound I.Index.meaning road.old }
-    requires fits { (hit_places call.now ≤ length hits.old) × (number_places call.now ≤ length numbers.old) }
     requires few { (length hits.old ≤ 16) × (length numbers.old ≤ 64) }
+    ensures same_reference { out.new.bytes.ghost_name ≡ out.old.bytes.ghost_name }
     ensures stays { RoadSound I.Index.sound I.Index.meaning road.new }
-    ensures answers { AnswersOne I.Element.Metric.dist C.Checker.passes (road_of I.Index.meaning road.old) call.now (lent hits.old numbers.old) out.old at result (lent hits.new numbers.new) out.new (road_of I.Index.meaning road.new) }
+    ensures len { MatchOption result (out.new.len ≡ out.old.len) (λ end. out.new.len ≡ end) }
+    ensures answers { AnswersOne I.Element.Metric.dist C.Checker.passes (road_of I.Index.meaning road.old) call.now (lent hits.old numbers.old) out.old.bytes.now out.old.len result (lent hits.new numbers.new) out.new.bytes.now (road_of I.Index.meaning road.new) }
 {
     let answer = ask(road, call, hits, numbers);
-    put_answer(out, at, call, &answer, hits, numbers)
+    put_answer(out, call, &answer, hits, numbers)
 }
 
 // Makes the calls in order on a roadmap over a fresh index.
@@ -69,22 +69,20 @@ pub fn play_on<I: Index + Drop, C: Checker<I::Element> + Copy>(
     ensures { Answered I.Element.Metric.dist (start k 64) (map (λ line. set_call C.Checker.passes (line_call line checker)) lines.now) blank_lists 0 0 out.old (told_calls result) out.new }
 {
     let mut links = [Links::unlinked(0); 64];
-    let mut road = match Roadmap::new(index, k, &mut links) {
-        Ok(road) => road,
-        Err(_) => unreachable(),
+    let Ok(mut road) = Roadmap::new(index, k, &mut links) else {
+        unreachable()
     };
     let mut hits = [Hit {
         number: 0,
         distance: 0,
     }; 16];
     let mut numbers = [0u16; 64];
-    let mut at = 0;
-    for i in 0..lines.len() {
-        let call = call_of(&lines[i], &checker);
-        match answer_call(&mut road, &call, &mut hits, &mut numbers, out, at) {
-            Some(end) => at = end,
-            None => return Err(OutputFull(i)),
-        }
+    let mut output = Output::new(out);
+    let mut end = 0;
+    for (i, line) in lines.iter().enumerate() {
+        let call = call_of(line, &checker);
+        let answered = answer_call(&mut road, &call, &mut hits, &mut numbers, &mut output);
+        end = answered.ok_or(OutputFull(i))?;
     }
-    Ok(at)
+    Ok(end)
 }

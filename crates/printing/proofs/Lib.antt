@@ -1,4 +1,2 @@
 mod Bytes
-mod Digits
 pub mod Words
-mod Numbers

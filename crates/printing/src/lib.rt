@@ -1,14 +1,33 @@
 // Lines of a word and numbers, written into an output.
 #![tactic(auto)]
 
-ghost use Rattle.std.specs.Prelude.{◌≡◌, ◌+◌, ◌≤◌, ◌∷◌, map, length, decimal};
+ghost use Rattle.std.specs.Prelude.{◌≡◌, ◌+◌, ◌^◌, ◌<◌, ◌≤◌, ◌∷◌, length, decimal, MatchOption, sum_by};
 ghost use Rattle.printing.specs.Outputs.{written, word_line, put_outcome, put_leaves};
+
+use itoa::Buffer;
+
+// Lent bytes, and how many of them are written.
+#[derive(Drop)]
+pub struct Output<'a> {
+    bytes: &'a mut [u8],
+    len: usize,
+}
 
 // How many digits the number has.
 fn decimal_len(n: usize) -> usize
-    ensures { result ≡ length (decimal n) }
+    ensures value { result ≡ length (decimal n) }
+    ensures short { result ≤ 40 }
 {
-    if n < 10 { 1 } else { decimal_len(n / 10) + 1 }
+    let mut digits = Buffer::new();
+    digits.format(n).len()
+}
+
+// How many bytes the numbers take, each with a space before it.
+fn numbers_len(numbers: &[usize]) -> usize
+    requires { sum_by (λ n. length (decimal n) + 1) numbers.now < 2 ^ 64 }
+    ensures { result ≡ sum_by (λ n. length (decimal n) + 1) numbers.now }
+{
+    numbers.iter().map(|n| decimal_len(*n) + 1).sum()
 }
 
 // How long the line is, its newline counted in.
@@ -16,55 +35,63 @@ fn line_len(word: &[u8], numbers: &[usize]) -> usize
     requires { (length word.now ≤ 128) × (length numbers.now ≤ 128) }
     ensures { result ≡ length (word_line word.now numbers.now) }
 {
-    let mut len = word.len() + 1;
-    for n in numbers {
-        len += decimal_len(*n) + 1;
-    }
-    len
+    word.len() + numbers_len(numbers) + 1
 }
 
-// Writes the number's digits from `at` on, and returns where they end.
-fn put_digits(out: &mut [u8], at: usize, n: usize) -> usize
-    requires { at + length (decimal n) ≤ length out.old }
-    ensures value { result ≡ at + length (decimal n) }
-    ensures after { out.new ≡ written out.old at (decimal n) }
-{
-    if n < 10 {
-        out[at] = b'0' + n as u8;
-        at + 1
-    } else {
-        let last = put_digits(out, at, n / 10);
-        out[last] = b'0' + (n % 10) as u8;
-        last + 1
+impl<'a> Output<'a> {
+    // Nothing is written yet.
+    pub fn new(bytes: &'a mut [u8]) -> Output<'a>
+        ensures same_reference { result.bytes.ghost_name ≡ bytes.entry.ghost_name }
+        ensures bytes { result.bytes.now ≡ bytes.old }
+        ensures len { result.len ≡ 0 }
+    {
+        Output { bytes, len: 0 }
     }
-}
 
-// Writes the bytes from `at` on.
-fn put_bytes(out: &mut [u8], at: usize, bytes: &[u8])
-    requires { at + length bytes.now ≤ length out.old }
-    ensures { out.new ≡ written out.old at bytes.now }
-{
-    for i in 0..bytes.len() {
-        out[at + i] = bytes[i];
+    // Writes bytes that have room.
+    fn put(&mut self, bytes: &[u8])
+        requires { self.old.len + length bytes.now ≤ length self.old.bytes.now }
+        ensures same_reference { self.new.bytes.ghost_name ≡ self.old.bytes.ghost_name }
+        ensures len { self.new.len ≡ self.old.len + length bytes.now }
+        ensures after { self.new.bytes.now ≡ written self.old.bytes.now self.old.len bytes.now }
+        ensures places { length self.new.bytes.now ≡ length self.old.bytes.now }
+    {
+        let start = self.len;
+        let end = start + bytes.len();
+        self.bytes[start..end].copy_from_slice(bytes);
+        self.len = end;
     }
-}
 
-// Writes a word and numbers, parted by spaces, as one line from `at` on, and returns where it ends. A line
-// that does not fit is not begun.
-pub fn put_line(out: &mut [u8], at: usize, word: &[u8], numbers: &[usize]) -> Option<usize>
-    requires { (length word.now ≤ 128) × (length numbers.now ≤ 128) }
-    ensures answer { result ≡ put_outcome (length out.old) at (word_line word.now numbers.now) }
-    ensures leaves { out.new ≡ put_leaves out.old at (word_line word.now numbers.now) }
-{
-    if at > out.len() || out.len() - at < line_len(word, numbers) {
-        return None;
+    // Writes a space and a number that have room.
+    fn put_number(&mut self, n: usize)
+        requires { self.old.len + length (32 ∷ decimal n) ≤ length self.old.bytes.now }
+        ensures same_reference { self.new.bytes.ghost_name ≡ self.old.bytes.ghost_name }
+        ensures len { self.new.len ≡ self.old.len + length (32 ∷ decimal n) }
+        ensures after { self.new.bytes.now ≡ written self.old.bytes.now self.old.len (32 ∷ decimal n) }
+        ensures places { length self.new.bytes.now ≡ length self.old.bytes.now }
+    {
+        let mut digits = Buffer::new();
+        self.put(b" ");
+        self.put(digits.format(n).as_bytes());
     }
-    put_bytes(out, at, word);
-    let mut end = at + word.len();
-    for n in numbers {
-        out[end] = b' ';
-        end = put_digits(out, end + 1, *n);
+
+    // Writes a word and numbers, parted by spaces, as one line, and returns where it ends. A line that does not
+    // fit is not begun.
+    pub fn put_line(&mut self, word: &[u8], numbers: &[usize]) -> Option<usize>
+        requires { (length word.now ≤ 128) × (length numbers.now ≤ 128) }
+        ensures same_reference { self.new.bytes.ghost_name ≡ self.old.bytes.ghost_name }
+        ensures answer { result ≡ put_outcome (length self.old.bytes.now) self.old.len (word_line word.now numbers.now) }
+        ensures len { MatchOption result (self.new.len ≡ self.old.len) (λ end. self.new.len ≡ end) }
+        ensures leaves { self.new.bytes.now ≡ put_leaves self.old.bytes.now self.old.len (word_line word.now numbers.now) }
+    {
+        if self.bytes.len().saturating_sub(self.len) < line_len(word, numbers) {
+            return None;
+        }
+        self.put(word);
+        for n in numbers {
+            self.put_number(*n);
+        }
+        self.put(b"\n");
+        Some(self.len)
     }
-    out[end] = b'\n';
-    Some(end + 1)
 }

@@ -9,6 +9,10 @@ use Rattle.player.proofs.calls.play_on.Given as goal
 
 abbrev pub invariant-loop-i : goal.invariant-loop-i
 invariant-loop-i g l =
-    (length l.hits ≡ 16) × (length l.numbers ≡ 64)
-    × RoadSound g.I.Index.sound g.I.Index.meaning l.road
-    × Going g.I.Element.Metric.dist (λ o after. Answered g.I.Element.Metric.dist (start l.k 64) (map (λ line. set_call g.C.Checker.passes (line_call line l.checker)) l.lines) blank_lists 0 0 l.initial.out o after) (map (λ line. set_call g.C.Checker.passes (line_call line l.checker)) (drop l.i l.lines)) (road_of g.I.Index.meaning l.road) (lent l.hits l.numbers) l.at l.i l.out
+    record {
+      places : (length l.hits ≡ 16) × (length l.numbers ≡ 64);
+      same_reference : l.output.bytes.ghost_name ≡ l.initial.output.bytes.ghost_name;
+      end : l.output.len ≡ l.end;
+      sound : RoadSound g.I.Index.sound g.I.Index.meaning l.road;
+      going : Going g.I.Element.Metric.dist (λ o after. Answered g.I.Element.Metric.dist (start l.k 64) (map (λ line. set_call g.C.Checker.passes (line_call line l.checker)) l.lines) blank_lists 0 0 l.fn.out o after) (map (λ line. set_call g.C.Checker.passes (line_call line l.checker)) (drop l.i l.lines)) (road_of g.I.Index.meaning l.road) (lent l.hits l.numbers) l.end l.i l.output.bytes.now;
+    }
