@@ -26,7 +26,7 @@ pub enum Unmade {
 }
 
 // An index, how many neighbours a new sample is tried with, and one edge record for each standing sample,
-// by rising number, the first `used` of those that are lent.
+// by rising number, the first `used` of those that are lent, so that their count stands beside them.
 #[derive(Drop)]
 pub struct Roadmap<'a, I> {
     index: I,
