@@ -10,7 +10,8 @@ use chains::Edge;
 use hits::Hit;
 
 // The elders that a sample has edges to, each with its distance: the first `count` of them count. An edge
-// counts only while both its ends stand.
+// counts only while both its ends stand. A plain record with its elders by value, since it is copied out of
+// a row, changed and written back.
 #[derive(Clone, Copy, Debug, PartialEq)]
 pub struct Links {
     pub number: u16,
@@ -52,6 +53,7 @@ fn resolve_one(links: &[Links], at: usize, edges: &mut [Edge], made: usize) -> u
     ensures { OneMore links.now at edges.old made edges.new result }
 {
     let record = links[at];
+    // Counted as they are written: an elder that does not stand has no edge.
     let mut all = made;
     for elder in &record.elders[..record.count as usize] {
         if let Some(place) = find(links, elder.number) {

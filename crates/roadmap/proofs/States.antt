@@ -1,64 +1,33 @@
 -- The states of a roadmap before and after a call. Assumes nothing.
-use Rattle.std.proofs.Common.{◌≡◌, ℕ, ◌+◌, ◌-◌, ◌<◌, ◌≤◌, Bool, true, ◌⊎◌, List, [], ◌∷◌, ◌++◌, map, length, take, drop, set, Some, None, filter, Option, sym, refl, ap, ◌∙◌, subst, inl, inr, arith, length-set, length-take}
+use Rattle.std.proofs.Common.{◌≡◌, ℕ, ◌+◌, ◌-◌, ◌<◌, ◌≤◌, Bool, true, ◌⊎◌, List, [], ◌∷◌, ◌++◌, map, length, take, set, Some, None, filter, Option, Result, sym, refl, ap, ◌∙◌, subst, inl, inr, arith, length-set, length-take}
 use Rattle.std.specs.List.{AllByRecursion}
-use Rattle.std.proofs.lemmas.List.{take_at, take_all, take_more_set, map_push, length-map}
+use Rattle.std.specs.Option.{ok_or}
+use Rattle.std.proofs.lemmas.List.{take_more_set, map_push, length-map}
 use Rattle.std.proofs.ByRecursion.{All-push, All-take, all_kept_by, All-weaker}
 use Rattle.std.proofs.lemmas.List.Sums.{length-filter, count_by-le-length}
 use Rattle.metric.specs.Laws.{MetricLaws}
 use Rattle.hits.specs.declared.Hit.{Hit}
 use Rattle.hits.specs.Samples.{Sample, Among, Rising, hits, hit_of}
-use Rattle.hits.specs.Lists.{over}
+use Rattle.hits.specs.Lists.{closed}
 use Rattle.hits.proofs.Putting.{all_put}
-use Rattle.hits.proofs.Ranking.{length_hits}
 use Rattle.chains.specs.Chains.{Island}
 use Rattle.chains.specs.Edges.{Linked}
 use Rattle.chains.proofs.Places.{among_at}
 use Rattle.graph.specs.Routes.{Standing, Routed}
+use Rattle.index.specs.declared.refusal.Refusal.{Refusal}
+use Rattle.index.specs.declared.refusal.Refusal.TheVariants.{NotStanding}
 use Rattle.index.specs.Meaning.{Meaning, Lawful, added, dropped, element_at}
-use Rattle.index.specs.Outcomes.{Outcome, gives, refuses, given_room}
-use Rattle.index.specs.Calls.{room_of, near_count, near_outcome, near_hits, near_list, drop_leaves_at}
-use Rattle.index.proofs.Outcomes.{near_done, room_left}
+use Rattle.index.specs.Outcomes.{Outcome, gives, given_room}
+use Rattle.index.specs.Calls.{room_of, near_count, near_hits, drop_leaves_at}
+use Rattle.index.proofs.Outcomes.{room_left}
 use Rattle.links.specs.declared.Links.{Links}
-use Rattle.links.specs.Records.{numbers, number_at, elders, Sound, Good, has, edge_to, edges_of, edges_without, closed, Found}
+use Rattle.links.specs.Records.{numbers, number_at, elders, Sound, Good, has, edge_to, edges_of, edges_without, Found}
 use Rattle.links.proofs.Changing.{edges_push, edges_drop, links_without, numbers_without, numbers_left, taken_out, all_without, no_edges}
-use Rattle.links.proofs.Closing.{closed_front, closed_length}
+use Rattle.hits.proofs.Closing.{closed_front, closed_length}
 use Rattle.roadmap.specs.declared.Roadmap.{Roadmap}
-use Rattle.roadmap.specs.Roads.{Road, Stands, sample_numbers, road_of, RoadSound, Placed}
-use Rattle.roadmap.specs.Calls.{passes_hit, linked_hits, grown, Nearest, LinkedTo, Filled, IslandTold, IslandToldAt, RouteTold, between, shrunk_edges, shrink_leaves, grow_outcome, grow_leaves, grow_leaves_at}
+use Rattle.roadmap.specs.Roads.{Road, Stands, sample_numbers, road_of, RoadSound, Placed, PlaceTold}
+use Rattle.roadmap.specs.Calls.{passes_hit, linked_hits, grown, LinkedTo, Filled, IslandTold, IslandToldAt, RouteTold, between, shrunk_edges, shrink_leaves, grow_outcome, grow_leaves, grow_leaves_at}
 use Rattle.roadmap.proofs.Standing.{rising_bound, count, good, among_has, without_numbers, absent, stands_out, island_stands, routed_stands}
-
--- near, with a count that the list has room for
-module _ {E : Type 0} (dist : E → E → ℕ) (m : Meaning E) (q : E) (k : ℕ) (list : List Hit) (low : 0 < k) (high : k ≤ length list) where
-  near_length : length (near_hits dist m q k) ≡ near_count m k
-  near_length = length-take (near_count m k) (hits dist q m.standing) ∙ omega (arith, length_hits dist q m.standing)
-
-  first : take k (hits dist q m.standing) ≡ near_hits dist m q k
-  first = go (near_count m k) refl
-    where
-      go : (c : ℕ) → c ≡ near_count m k → take k (hits dist q m.standing) ≡ near_hits dist m q k
-      go c e = pick (Rattle.std.proofs.lemmas.Bool.cases_lt k (length m.standing))
-        where
-          hs : List Hit
-          hs = hits dist q m.standing
-
-          pick : (k < length m.standing) ⊎ (length m.standing ≤ k) → take k (hits dist q m.standing) ≡ near_hits dist m q k
-          pick (inl x) = ap (λ j. take j (hits dist q m.standing)) (omega arith)
-          pick (inr x) = take_all k (hits dist q m.standing) (omega (arith, length_hits dist q m.standing)) ∙ sym (take_all (near_count m k) (hits dist q m.standing) (omega (arith, length_hits dist q m.standing)))
-
-  pub near_told : (found : ℕ) (after : List Hit) → gives found ≡ near_outcome m k list → after ≡ near_list dist m q k list → Nearest dist m q k found after
-  near_told found after e w =
-      let d = near_done dist m q k list low high in
-      let same : gives found ≡ gives (near_count m k) = e ∙ sym d.0 in
-      let n : found ≡ near_count m k = cc in
-      let text : after ≡ over (near_hits dist m q k) list = w ∙ (sym d.1 ∙ ap (λ z. over z list) first) in
-      record { count = n; writes = ap (take found) text ∙ take_at (near_hits dist m q k) (drop (length (near_hits dist m q k)) list) found (near_length ∙ sym n) }
-
-  pub near_not : (code : ℕ) (figures : List ℕ) → refuses code figures ≡ near_outcome m k list → ⊥
-  near_not code figures e =
-      let d = near_done dist m q k list low high in
-      let same : gives (near_count m k) ≡ refuses code figures = d.0 ∙ sym e in
-      let z : ◌≡◌ {A = ℕ} 0 1 = cc in
-      omega arith
 
 -- every hit is a standing sample's, no farther than any distance can be
 module _ {E : Type 0} (dist : E → E → ℕ) (top : ℕ) (laws : MetricLaws top dist) (q : E) where
@@ -198,7 +167,7 @@ module _ {I E : Type 0} (sound : I → Type 0) (meaning : I → Meaning E) (r : 
   pub records_length : length (take (r.used - 0) r.links.now) ≡ r.used
   records_length = ap (λ k. length (take k r.links.now)) all_used ∙ (length-take r.used r.links.now ∙ omega (arith, o.used_bound))
 
-  pub placed : (n : ℕ) (p : Option ℕ) → Found n (take (r.used - 0) r.links.now) p → Placed meaning r n p
+  placed : (n : ℕ) (p : Option ℕ) → Found n (take (r.used - 0) r.links.now) p → Placed meaning r n p
   placed n p f = go p (let P : ℕ → Type 0 = λ k. Found n (take k r.links.now) p in subst P all_used f)
     where
       go : (p : Option ℕ) → Found n (take r.used r.links.now) p → Placed meaning r n p
@@ -209,6 +178,13 @@ module _ {I E : Type 0} (sound : I → Type 0) (meaning : I → Meaning E) (r : 
           let size = length-take r.used r.links.now in
           (omega (arith, x.0, o.used_bound), x.1, stands_out (meaning r.index) law L o.numbered n (subst P x.1 (among_at (numbers L) i (omega (arith, x.0, length-map L (λ y. y.number))))))
 
+  pub place_told : (n : ℕ) (place : Option ℕ) (told : Result ℕ Refusal) → Found n (take (r.used - 0) r.links.now) place → told ≡ ok_or place (NotStanding n) → PlaceTold meaning r n told
+  place_told n place told f e = subst (PlaceTold meaning r n) (sym e) (either place (placed n place f))
+    where
+      either : (place : Option ℕ) → Placed meaning r n place → PlaceTold meaning r n (ok_or place (NotStanding n))
+      either None h = (refl, h)
+      either (Some at) h = h
+
   pub island_told : (n at m : ℕ) → number_at (take r.used r.links.now) at ≡ n → Stands (meaning r.index) n → Island (Standing (take (r.used - 0) r.links.now)) (Linked (edges_of (take (r.used - 0) r.links.now))) (number_at (take (r.used - 0) r.links.now) at) m → IslandTold (road_of meaning r) n (gives m)
   island_told n at m is st x =
       let P : ℕ → Type 0 = λ k. Island (Standing (take k r.links.now)) (Linked (edges_of (take k r.links.now))) (number_at (take k r.links.now) at) m in
@@ -216,9 +192,6 @@ module _ {I E : Type 0} (sound : I → Type 0) (meaning : I → Meaning E) (r : 
       let Q : ℕ → Type 0 = λ k. Island (Stands (meaning r.index)) (Linked (edges_of L)) k m in
       let R : Option E → Type 0 = λ z. IslandToldAt (road_of meaning r) n (gives m) z in
       subst R (sym st.1) (m, refl, subst Q is (island_stands (meaning r.index) law L o.numbered (number_at L at) m (subst P all_used x)))
-
-  pub island_absent : (n : ℕ) → element_at n (meaning r.index).standing ≡ None → IslandTold (road_of meaning r) n (refuses 5 (n ∷ []))
-  island_absent n e = (let R : Option E → Type 0 = λ z. IslandToldAt (road_of meaning r) n (refuses 5 (n ∷ [])) z in subst R (sym e) refl)
 
   pub route_told : (a b start goal : ℕ) → number_at (take r.used r.links.now) start ≡ a → Stands (meaning r.index) a → number_at (take r.used r.links.now) goal ≡ b → Stands (meaning r.index) b → (list : List ℕ) (out : Outcome (ℕ × ℕ)) (after : List ℕ)
       → Routed (Standing (take (r.used - 0) r.links.now)) (Linked (edges_of (take (r.used - 0) r.links.now))) (number_at (take (r.used - 0) r.links.now) start) (number_at (take (r.used - 0) r.links.now) goal) list out after
@@ -250,12 +223,6 @@ module _ {E : Type 0} (road : Road E) (n : ℕ) where
   pub shrink_done : (e : E) → element_at n road.index.standing ≡ Some e → record { index = dropped road.index n; k = road.k; edges = edges_without n road.edges } ≡ shrink_leaves road n
   shrink_done e is = ap (λ z. record { index = drop_leaves_at road.index n z; k = road.k; edges = shrunk_edges n road.edges z }) (sym is)
 
-  pub shrink_absent : element_at n road.index.standing ≡ None → road ≡ shrink_leaves road n
-  shrink_absent is = ap (λ z. record { index = drop_leaves_at road.index n z; k = road.k; edges = shrunk_edges n road.edges z }) (sym is)
-
 module _ {E : Type 0} (dist : E → E → ℕ) (passes : E → E → Bool) (road : Road E) (e : E) where
-  pub grow_refused : (n : ℕ) (figures : List ℕ) → refuses n figures ≡ room_of road.index → (refuses n figures ≡ grow_outcome dist passes road e) × (road ≡ grow_leaves dist passes road e)
-  grow_refused n figures i = (ap (λ o. given_room o (road.index.last + 1, length (linked_hits dist passes road e))) i, ap (grow_leaves_at dist passes road e) i)
-
   pub grow_done : gives tt ≡ room_of road.index → (gives (road.index.last + 1, length (linked_hits dist passes road e)) ≡ grow_outcome dist passes road e) × (grown dist passes road e ≡ grow_leaves dist passes road e)
   grow_done i = (ap (λ o. given_room o (road.index.last + 1, length (linked_hits dist passes road e))) i, ap (grow_leaves_at dist passes road e) i)

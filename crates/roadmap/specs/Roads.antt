@@ -3,6 +3,8 @@ use Rattle.std.specs.Prelude.{◌≡◌, ℕ, ◌<◌, ◌≤◌, ◌⊎◌, Lis
 use Rattle.std.specs.List.{AllByRecursion}
 use Rattle.chains.specs.declared.Edge.{Edge}
 use Rattle.index.specs.Meaning.{Meaning, element_at}
+use Rattle.index.specs.declared.refusal.Refusal.{Refusal}
+use Rattle.index.specs.declared.refusal.Refusal.TheVariants.{NotStanding}
 use Rattle.links.specs.Records.{numbers, number_at, Sound, edges_of}
 use Rattle.roadmap.specs.declared.Roadmap.{Roadmap}
 use Rattle.roadmap.specs.declared.Unmade.{Unmade}
@@ -29,6 +31,11 @@ road_of meaning r = record { index = meaning r.index; k = r.k; edges = edges_of 
 abbrev pub Placed : {I E : Type 0} → (I → Meaning E) → Roadmap I → ℕ → Option ℕ → Type 0
 Placed meaning r n None = element_at n (meaning r.index).standing ≡ None
 Placed meaning r n (Some i) = (i < r.used) × (number_at (take r.used r.links.now) i ≡ n) × Stands (meaning r.index) n
+
+-- the same as a call tells it: that it does not stand is a refusal
+abbrev pub PlaceTold : {I E : Type 0} → (I → Meaning E) → Roadmap I → ℕ → Result ℕ Refusal → Type 0
+PlaceTold meaning r n (Ok i) = Placed meaning r n (Some i)
+PlaceTold meaning r n (Err refusal) = (refusal ≡ NotStanding n) × Placed meaning r n None
 
 module _ {I E : Type 0} (sound : I → Type 0) (meaning : I → Meaning E) where
   -- one sound record for each standing sample, and k from 1 to 8

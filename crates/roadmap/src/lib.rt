@@ -1,19 +1,19 @@
 // The roadmap: samples in an index, and edges between near ones that a checker passes.
 #![tactic(auto)]
 
-ghost use Rattle.std.specs.Prelude.{◌≡◌, ℕ, ◌+◌, ◌<◌, ◌≤◌, length, slice_set};
+ghost use Rattle.std.specs.Prelude.{◌≡◌, ℕ, ◌+◌, ◌<◌, ◌≤◌, length};
 ghost use Rattle.index.specs.Meaning.{Meaning, added};
 ghost use Rattle.index.specs.Outcomes.{told, gives};
 ghost use Rattle.index.specs.Calls.{room_of, drop_outcome, element_outcome, tally_of, near_count, near_outcome, near_hits, near_list, within_count, within_list};
-ghost use Rattle.roadmap.specs.Roads.{road_of, RoadSound, Placed, Made};
+ghost use Rattle.roadmap.specs.Roads.{road_of, RoadSound, PlaceTold, Made};
 ghost use Rattle.roadmap.specs.Calls.{Nearest, LinkedTo, Filled, grow_outcome, grow_leaves, shrink_leaves, IslandTold, RouteTold};
 
 use checker::Checker;
 use graph::{island, route};
-use hits::Hit;
+use hits::{Hit, close_up};
 use index::index::Index;
 use index::refusal::{Refusal, room};
-use links::{Links, close_up, find};
+use links::{Links, find};
 use metric::Metric;
 
 // Why a roadmap is not made.
@@ -26,7 +26,7 @@ pub enum Unmade {
 }
 
 // An index, how many neighbours a new sample is tried with, and one edge record for each standing sample,
-// by rising number, the first `used` of those that are lent.
+// by rising number, the first `used` of those that are lent, so that their count stands beside them.
 #[derive(Drop)]
 pub struct Roadmap<'a, I> {
     index: I,
@@ -40,10 +40,7 @@ fn nearest<I: Index>(index: &I, e: &I::Element, k: usize, hits: &mut [Hit]) -> u
     requires { (I.Index.sound index.now) × ((0 < k) × (k ≤ length hits.old)) }
     ensures { Nearest I.Element.Metric.dist (I.Index.meaning index.now) e.now k result hits.new }
 {
-    match index.near(e, k, hits) {
-        Ok(found) => found,
-        Err(_) => 0,
-    }
+    index.near(e, k, hits).unwrap_or(0)
 }
 
 // Files e. There is room, so it is not refused.
@@ -53,10 +50,7 @@ fn file<I: Index>(index: &mut I, e: I::Element) -> u16
     ensures number { result ≡ (I.Index.meaning index.old).last + 1 }
     ensures leaves { I.Index.meaning index.new ≡ added (I.Index.meaning index.old) e }
 {
-    match index.add(e) {
-        Ok(number) => number,
-        Err(_) => 0,
-    }
+    index.add(e).unwrap_or(0)
 }
 
 // The edge record of a new sample: of these hits, those whose pair with it the checker passes.
@@ -72,10 +66,10 @@ fn link<I: Index, C: Checker<I::Element>>(
 {
     let mut own = Links::unlinked(number);
     let mut count = 0;
-    for i in 0..hits.len() {
-        if let Ok(elder) = index.element(hits[i].number) {
+    for hit in hits {
+        if let Ok(elder) = index.element(hit.number) {
             if checker.check(&elder, e) {
-                own.elders[count] = hits[i];
+                own.elders[count] = *hit;
                 count += 1;
             }
         }
@@ -84,20 +78,13 @@ fn link<I: Index, C: Checker<I::Element>>(
     own
 }
 
-// Writes a record.
-fn write(links: &mut [Links], at: usize, own: Links)
-    requires { at < length links.old }
-    ensures { links.new ≡ slice_set links.old at own }
-{
-    links[at] = own;
-}
-
 // A record without edges for each sample that stands. How many there are.
 fn fill_in<I: Index>(index: &I, last: u16, links: &mut [Links]) -> usize
     requires { (I.Index.sound index.now) × (((I.Index.meaning index.now).last ≡ last) × ((I.Index.meaning index.now).capacity ≤ length links.old)) }
     ensures { Filled (I.Index.meaning index.now) result links.new }
 {
     let mut used = 0;
+    // Not `1..=last`, whose end is one more than the last number can be.
     for before in 0..last {
         if let Ok(_) = index.element(before + 1) {
             links[used] = Links::unlinked(before + 1);
@@ -151,9 +138,8 @@ impl<'a, I: Index + Drop> Roadmap<'a, I> {
         let found = nearest(&self.index, &e, self.k, &mut hits);
         let own = link(&self.index, last + 1, &e, checker, &hits[0..found]);
         let number = file(&mut self.index, e);
-        let used = self.used;
-        write(self.links, used, own);
-        self.used = used + 1;
+        self.links[self.used] = own;
+        self.used += 1;
         Ok((number, own.count))
     }
 
@@ -164,24 +150,19 @@ impl<'a, I: Index + Drop> Roadmap<'a, I> {
         ensures answer { told result ≡ drop_outcome (road_of I.Index.meaning self.old).index number }
         ensures leaves { road_of I.Index.meaning self.new ≡ shrink_leaves (road_of I.Index.meaning self.old) number }
     {
-        match self.place_of(number) {
-            Some(at) => {
-                let used = self.used;
-                let answer = self.index.drop(number);
-                close_up(self.links, at, used);
-                self.used = used - 1;
-                answer
-            }
-            None => Err(Refusal::NotStanding(number)),
-        }
+        let at = self.place_of(number)?;
+        let answer = self.index.drop(number);
+        close_up(self.links, at, self.used);
+        self.used -= 1;
+        answer
     }
 
     // The place of the record of this number.
-    fn place_of(&self, number: u16) -> Option<usize>
+    fn place_of(&self, number: u16) -> Result<usize, Refusal>
         requires { RoadSound I.Index.sound I.Index.meaning self.now }
-        ensures { Placed I.Index.meaning self.now number result }
+        ensures { PlaceTold I.Index.meaning self.now number result }
     {
-        find(&self.links[0..self.used], number)
+        find(&self.links[0..self.used], number).ok_or(Refusal::NotStanding(number))
     }
 
     // The element of the sample of this number.
@@ -223,10 +204,8 @@ impl<'a, I: Index + Drop> Roadmap<'a, I> {
         requires { RoadSound I.Index.sound I.Index.meaning self.now }
         ensures { IslandTold (road_of I.Index.meaning self.now) number (told result) }
     {
-        match self.place_of(number) {
-            Some(at) => Ok(island(&self.links[0..self.used], at)),
-            None => Err(Refusal::NotStanding(number)),
-        }
+        let at = self.place_of(number)?;
+        Ok(island(&self.links[0..self.used], at))
     }
 
     // Writes the numbers of the shortest chain of edges from a to b, of those the one of fewest samples, of those
@@ -235,12 +214,8 @@ impl<'a, I: Index + Drop> Roadmap<'a, I> {
         requires { RoadSound I.Index.sound I.Index.meaning self.now }
         ensures { RouteTold (road_of I.Index.meaning self.now) a b list.old (told result) list.new }
     {
-        match self.place_of(a) {
-            Some(start) => match self.place_of(b) {
-                Some(goal) => route(&self.links[0..self.used], start, goal, list),
-                None => Err(Refusal::NotStanding(b)),
-            },
-            None => Err(Refusal::NotStanding(a)),
-        }
+        let start = self.place_of(a)?;
+        let goal = self.place_of(b)?;
+        route(&self.links[0..self.used], start, goal, list)
     }
 }

@@ -90,7 +90,7 @@ fn onward_or(costs: &[u64], at: usize, from: usize, to: usize, apart: u32, best:
     best
 }
 
-// The smallest next place on a chain of least cost from `at`.
+// The smallest next place on a chain of least cost from `at`; one above all places stands for none so far.
 fn onward(costs: &[u64], edges: &[Edge], at: usize) -> usize
     requires { (at < length costs.now) × (AllByRecursion (Inside (length costs.now)) edges.now) }
     ensures { Onward edges.now costs.now at result }

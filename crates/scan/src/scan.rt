@@ -9,7 +9,8 @@ use index::index::Index;
 use index::refusal::{Refusal, room};
 use metric::Metric;
 
-// The first `used` rows hold the standing samples by rising number.
+// The first `used` rows hold the standing samples by rising number. The rows are lent, so their
+// count stands beside them.
 #[derive(Drop)]
 pub struct Scan<'a, E> {
     rows: &'a mut [Row<E>],

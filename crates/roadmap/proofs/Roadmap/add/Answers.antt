@@ -1,21 +1,13 @@
-use Rattle.std.proofs.Common.{◌≡◌, ℕ, ◌+◌, ◌-◌, take, sym, refl, ap, ◌∙◌, subst, arith, length-take}
+use Rattle.std.proofs.Common.{◌≡◌, ℕ, ◌+◌, ◌-◌, take, set, sym, refl, ap, ◌∙◌, subst, arith, length-take}
 use borrow.Rule.Slice.Mut.{set_vals}
-use Rattle.std.proofs.lemmas.Result.{err_from_is_err_and}
 use Rattle.index.specs.Outcomes.{gives, room_outcome}
 use Rattle.index.specs.Calls.{near_hits}
 use Rattle.index.proofs.Outcomes.{numbers_left}
 use Rattle.roadmap.specs.declared.Roadmap.{Roadmap}
 use Rattle.roadmap.specs.Roads.{road_of}
 use Rattle.roadmap.specs.Calls.{LinkedTo}
-use Rattle.roadmap.proofs.States.{room_used, held_count, add_sound, add_means, grow_refused, grow_done}
+use Rattle.roadmap.proofs.States.{room_used, held_count, add_sound, add_means, grow_done}
 use Rattle.roadmap.proofs.Roadmap.add.Goals as goal
-
-pub returns-in_err-room : goal.returns-in_err-room
-returns-in_err-room g c =
-    let r = c.args.self.now in
-    let p = err_from_is_err_and c.from_residual.result c.from_residual.ensures.1 in
-    let q = grow_refused g.I.Element.Metric.dist (g.C.Checker.passes c.args.checker.now) (road_of g.I.Index.meaning r) c.args.e _ _ (c.in_err-room.ensures ∙ ap (λ z. room_outcome z.0 z.1 z.2) c.tally-capacity.ensures) in
-    rw (p.1, p.2) (record { stays = c.requires; answer = q.0; leaves = q.1 })
 
 pub overflow_add-last : goal.overflow_add-last
 overflow_add-last g c =
@@ -33,8 +25,8 @@ link-own-requires g c = (c.requires.index, simp length-take (omega (arith, c.nea
 pub file-number-requires : goal.file-number-requires
 file-number-requires g c = (c.requires.index, sym (c.in_ok-room.ensures ∙ ap (λ z. room_outcome z.0 z.1 z.2) c.tally-capacity.ensures))
 
-pub write-requires : goal.write-requires
-write-requires g c =
+pub bounds-self-self : goal.bounds-self-self
+bounds-self-self g c =
     let r = c.args.self.now in
     room_used g.I.Index.sound g.I.Index.meaning r c.requires (g.I.Index.lawful r.index c.requires.index) g.I.Element.Metric.dist g.I.Element.Metric.GREATEST g.I.Element.Metric.laws (g.C.Checker.passes c.args.checker.now) c.args.e (c.in_ok-room.ensures ∙ ap (λ z. room_outcome z.0 z.1 z.2) c.tally-capacity.ensures)
 
@@ -52,11 +44,11 @@ returns g c =
     let near : found ≡ near_hits dist m c.args.e r.k = ap (λ k. take k c.nearest-found.new.hits) z ∙ c.nearest-found.ensures.writes in
     let P : ℕ → Type 0 = λ k. LinkedTo p c.args.e m (k + 1) found c.link-own.result in
     let linked = subst P (ap (λ z. z.2) tl) c.link-own.ensures in
-    let t : Roadmap g.row.I.Denot = record { index = c.file-number.new.index; k = r.k; links = set_vals c.write.new.links r.links; used = r.used + 1 } in
+    let t : Roadmap g.row.I.Denot = record { index = c.file-number.new.index; k = r.k; links = set_vals (set r.links.now r.used c.link-own.result) r.links; used = r.used + 1 } in
     let done = grow_done dist p (road_of g.I.Index.meaning r) c.args.e free in
     let many = held_count g.I.Index.sound g.I.Index.meaning r c.requires law dist g.I.Element.Metric.GREATEST g.I.Element.Metric.laws p c.args.e free found near c.link-own.result linked in
     record {
-      stays = add_sound g.I.Index.sound g.I.Index.meaning r c.requires law dist g.I.Element.Metric.GREATEST g.I.Element.Metric.laws p c.args.e free found near c.link-own.result linked t c.file-number.ensures.stays c.file-number.ensures.leaves refl c.write.ensures refl;
+      stays = add_sound g.I.Index.sound g.I.Index.meaning r c.requires law dist g.I.Element.Metric.GREATEST g.I.Element.Metric.laws p c.args.e free found near c.link-own.result linked t c.file-number.ensures.stays c.file-number.ensures.leaves refl refl refl;
       answer = (λ i. gives (c.file-number.ensures.number i, many i)) ∙ done.0;
-      leaves = add_means g.I.Index.sound g.I.Index.meaning r c.requires law dist g.I.Element.Metric.GREATEST g.I.Element.Metric.laws p c.args.e free found near c.link-own.result linked t c.file-number.ensures.stays c.file-number.ensures.leaves refl c.write.ensures refl ∙ done.1;
+      leaves = add_means g.I.Index.sound g.I.Index.meaning r c.requires law dist g.I.Element.Metric.GREATEST g.I.Element.Metric.laws p c.args.e free found near c.link-own.result linked t c.file-number.ensures.stays c.file-number.ensures.leaves refl refl refl ∙ done.1;
     }
