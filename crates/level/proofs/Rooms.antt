@@ -1,14 +1,14 @@
 -- The lists of a level have room for what may still come. Assumes nothing.
-use Rattle.std.proofs.Common.{◌≡◌, ℕ, zero, suc, ◌-◌, ◌<◌, ◌≤◌, List, [], ◌∷◌, ◌++◌, map, length, take, sym, refl, ap, ◌∙◌, subst, arith}
+use Rattle.std.proofs.Common.{◌≡◌, ℕ, zero, suc, ◌-◌, ◌<◌, ◌≤◌, List, [], ◌∷◌, ◌++◌, length, sym, refl, ap, subst, arith}
 use Rattle.std.proofs.lemmas.List.{length_push, map_push}
 use Rattle.level_theory.specs.Levels.{Kind}
 use Rattle.level_theory.specs.Reading.{walls_left, calls_left, level_with}
+use Rattle.arrayvec.specs.ArrayVec.{ArrayVec}
 use Rattle.lines.specs.declared.calls.CallLine.{CallLine}
 use Rattle.lines.specs.Calls.{call_shown}
 use Rattle.level.specs.declared.level.Level.{Level}
 use Rattle.level.specs.declared.reader.Stage.{Stage}
 use Rattle.level.specs.declared.reader.Stage.TheVariants.{WallCount, Walls, CallCount, Calls}
-use Rattle.level.specs.declared.reader.Reader.{Reader}
 use Rattle.level.specs.Levels.{with_wall, with_call, level_shown}
 use Rattle.level.specs.Stages.{stage_shown, walls_next, calls_next, walls_yet, calls_yet, SomeLeft, Room}
 
@@ -84,6 +84,20 @@ module _ {E W : Type 0} (l : Level E W) (st : Stage) (room : Room (record { leve
 
   pub room_call : (n : ℕ) (call : CallLine E) (l' : Level E W) (st' : Stage) → st ≡ Calls n → l' ≡ with_call l call → st' ≡ calls_next (n - 1) → Room (record { level = l'; stage = st' })
   room_call n call l' st' e f h = subst (λ x. Room (record { level = x; stage = st' })) (sym f) (subst (λ s. Room (record { level = with_call l call; stage = s })) (sym h) (room_with_call n call e))
+
+-- one wall or call more, put behind the others
+module _ {E W : Type 0} (l : Level E W) where
+  abbrev pub walls_put : ArrayVec W → Level E W
+  walls_put v = record { header = l.header; walls = v; calls = l.calls }
+
+  abbrev pub calls_put : ArrayVec (CallLine E) → Level E W
+  calls_put v = record { header = l.header; walls = l.walls; calls = v }
+
+  pub wall_put : (wall : W) (v : ArrayVec W) → v.items ≡ l.walls.items ++ (wall ∷ []) → walls_put v ≡ with_wall l wall
+  wall_put wall v e = ap (λ xs. walls_put (record { items = xs })) e
+
+  pub call_put : (call : CallLine E) (v : ArrayVec (CallLine E)) → v.items ≡ l.calls.items ++ (call ∷ []) → calls_put v ≡ with_call l call
+  call_put call v e = ap (λ xs. calls_put (record { items = xs })) e
 
 -- one wall or call more, by its numbers
 module _ {E W : Type 0} (kind : Kind) (listed : E → List ℕ) (bounds : W → List ℕ) (l : Level E W) where

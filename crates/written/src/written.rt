@@ -11,7 +11,7 @@ use words::{Misplaced, Words};
 // An element is written as its numbers, and `made` takes them back to it. A wall is written as the
 // numbers of its bounds, and `built` takes those back.
 pub trait Written: Metric {
-    type Wall: Copy + Default;
+    type Wall: Copy;
 
     ghost kind: { Kind };
 
