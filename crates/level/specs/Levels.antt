@@ -1,12 +1,13 @@
 -- What a level that is read means.
-use Rattle.std.specs.Prelude.{◌≡◌, ℕ, ◌+◌, ◌≤◌, List, [], map, length, take, Ok, Err, Result, slice_set}
+use Rattle.std.specs.Prelude.{ℕ, List, [], ◌∷◌, ◌++◌, map, Ok, Err, Result}
 use Rattle.index.specs.Outcomes.{Outcome, gives, refuses}
-use Rattle.level_theory.specs.Levels.{Kind, arms, cards, header_outcome}
+use Rattle.level_theory.specs.Levels.{Kind, arms, cards}
 use Rattle.level_theory.specs.Levels.{Level as Meaning}
 use Rattle.lines.specs.declared.calls.CallLine.{CallLine}
 use Rattle.lines.specs.declared.fault.ReadFault.{ReadFault}
 use Rattle.lines.specs.declared.header.Header.{Header}
 use Rattle.lines.specs.Faults.{fault_number, fault_figures}
+use Rattle.lines.specs.Settings.{tree_degree, tree_bucket}
 use Rattle.lines.specs.Calls.{call_shown}
 use Rattle.written.specs.Arms.{arm_numbers}
 use Rattle.written.specs.Arms as arm_walls
@@ -17,17 +18,17 @@ use Rattle.level.specs.declared.level.AnyLevel.{AnyLevel}
 use Rattle.level.specs.declared.level.AnyLevel.TheVariants.{Arms, Cards}
 
 abbrev pub with_wall : {E W : Type 0} → Level E W → W → Level E W
-with_wall l wall = record { header = l.header; walls = slice_set l.walls l.wall_count wall; wall_count = l.wall_count + 1; calls = l.calls; call_count = l.call_count }
+with_wall l wall = record { header = l.header; walls = record { items = l.walls.items ++ (wall ∷ []) }; calls = l.calls }
 
 abbrev pub with_call : {E W : Type 0} → Level E W → CallLine E → Level E W
-with_call l call = record { header = l.header; walls = l.walls; wall_count = l.wall_count; calls = slice_set l.calls l.call_count call; call_count = l.call_count + 1 }
+with_call l call = record { header = l.header; walls = l.walls; calls = record { items = l.calls.items ++ (call ∷ []) } }
 
 -- kind and settings, the walls and the calls by their numbers
 abbrev pub level_shown : {E W : Type 0} → Kind → (E → List ℕ) → (W → List ℕ) → Level E W → Meaning
-level_shown kind listed bounds l = record { kind = kind; degree = l.header.degree; bucket = l.header.bucket; k = l.header.k; walls = map bounds (take l.wall_count l.walls); calls = map (call_shown listed) (take l.call_count l.calls) }
+level_shown kind listed bounds l = record { kind = kind; degree = tree_degree l.header.tree; bucket = tree_bucket l.header.tree; k = l.header.k; walls = map bounds l.walls.items; calls = map (call_shown listed) l.calls.items }
 
 abbrev pub empty_level : Kind → Header → Meaning
-empty_level kind header = record { kind = kind; degree = header.degree; bucket = header.bucket; k = header.k; walls = []; calls = [] }
+empty_level kind header = record { kind = kind; degree = tree_degree header.tree; bucket = tree_bucket header.tree; k = header.k; walls = []; calls = [] }
 
 -- what reading the lines into a level tells
 abbrev pub rest_told : {E W : Type 0} → Kind → (E → List ℕ) → (W → List ℕ) → Result Unit ReadFault → Level E W → Outcome Meaning
@@ -42,22 +43,3 @@ any_shown (Cards level) = level_shown cards card_numbers card_walls.wall_numbers
 abbrev pub told_read : Result AnyLevel ReadFault → Outcome Meaning
 told_read (Ok level) = gives (any_shown level)
 told_read (Err fault) = refuses (fault_number fault) (fault_figures fault)
-
--- the walls and calls have room in their lists
-pub record Counted {E W : Type 0} (l : Level E W) : Type 0 where
-  pub wall_room : length l.walls ≡ 64
-  pub few_walls : l.wall_count ≤ 64
-  pub call_room : length l.calls ≡ 512
-  pub few_calls : l.call_count ≤ 512
-
-abbrev pub SettingsHold : Header → Type 0
-SettingsHold h = header_outcome h.degree h.bucket h.k ≡ gives tt
-
--- and the settings of a level that is read hold
-abbrev pub LevelFits : AnyLevel → Type 0
-LevelFits (Arms level) = Counted level × SettingsHold level.header
-LevelFits (Cards level) = Counted level × SettingsHold level.header
-
-abbrev pub AllFits : Result AnyLevel ReadFault → Type 0
-AllFits (Ok level) = LevelFits level
-AllFits (Err fault) = Unit {0}

@@ -2,13 +2,15 @@
 ghost use Rattle.std.specs.Prelude.{◌≡◌, ℕ, ◌≤◌, length, ◌≢◌};
 ghost use Rattle.level_theory.specs.Words.{words_of};
 ghost use Rattle.level_theory.specs.Reading.{read_line};
+ghost use Rattle.words.specs.Tokens.{shown};
 ghost use Rattle.words.specs.Cursors.{words_left};
 ghost use Rattle.level.specs.declared.reader.Stage.TheVariants.{End};
 ghost use Rattle.level.specs.Levels.{level_shown, empty_level};
-ghost use Rattle.level.specs.Stages.{stage_shown, walls_next, calls_next, Room, line_told, line_read};
+ghost use Rattle.level.specs.Stages.{stage_shown, walls_next, calls_next, first_checked, Room, line_told, line_read};
 
-use crate::level::{Level, push_call, push_wall};
-use lines::calls::{CallLine, call_line};
+use crate::level::Level;
+use arrayvec::ArrayVec;
+use lines::calls::call_line;
 use lines::counts::{count_line, wall_line};
 use lines::fault::{ReadFault, at_line};
 use lines::header::Header;
@@ -32,6 +34,7 @@ pub(crate) struct Reader<E, W> {
     pub(crate) stage: Stage,
 }
 
+// Both stages of a section differ from those of the other, so that one function would be passed them.
 fn walls_to_come(left: usize) -> Stage
     ensures { result ≡ walls_next left }
 {
@@ -54,20 +57,32 @@ fn calls_to_come(left: usize) -> Stage
 
 // Nothing but the header is read.
 pub(crate) fn start<K: Written>(header: Header) -> Reader<K, K::Wall>
+where
+    K::Wall: Default,
     ensures level { level_shown K.kind K.listed K.bounds result.level ≡ empty_level K.kind header }
-    ensures header { result.level.header ≡ header }
     ensures stage { result.stage ≡ Stage.WallCount }
     ensures room { Room result }
 {
     Reader {
         level: Level {
             header,
-            walls: [K::blank_wall(); 64],
-            wall_count: 0,
-            calls: [CallLine::Island(0); 512],
-            call_count: 0,
+            walls: ArrayVec::new(),
+            calls: ArrayVec::new(),
         },
         stage: Stage::WallCount,
+    }
+}
+
+// The line that is wanted has to begin with such a word.
+fn check_first(stage: Stage, first: Token) -> Result<(), Misplaced>
+    ensures { result ≡ first_checked stage (shown first.entry) }
+{
+    match (stage, first) {
+        (Stage::WallCount, Token::Letters(_, _)) => Ok(()),
+        (Stage::Walls(_), Token::Digits(_, _)) => Ok(()),
+        (Stage::CallCount, Token::Letters(_, _)) => Ok(()),
+        (Stage::Calls(_), Token::Letters(_, _)) => Ok(()),
+        _ => Err(Misplaced(first.place())),
     }
 }
 
@@ -80,33 +95,33 @@ fn take_line<K: Written>(
     requires room { Room reader.old }
     requires place { words.old.place ≡ 1 }
     ensures told { (line : ℕ) → line_told line K.kind K.listed K.bounds result reader.new ≡ read_line (stage_shown reader.old.stage) line (level_shown K.kind K.listed K.bounds reader.old.level) (words_left words.old) }
-    ensures header { reader.new.level.header ≡ reader.old.level.header }
     ensures room { Room reader.new }
 {
-    match (reader.stage, words.peek()) {
-        (Stage::WallCount, Token::Letters(_, _)) => {
+    check_first(reader.stage, words.peek())?;
+    match reader.stage {
+        Stage::WallCount => {
             let count = count_line(words, b"walls", 64)?;
             reader.stage = walls_to_come(count as usize);
             Ok(())
         }
-        (Stage::Walls(left), Token::Digits(_, _)) => {
+        Stage::Walls(left) => {
             let wall = wall_line::<K>(words)?;
-            push_wall(&mut reader.level, wall);
+            reader.level.walls.push(wall);
             reader.stage = walls_to_come(left - 1);
             Ok(())
         }
-        (Stage::CallCount, Token::Letters(_, _)) => {
+        Stage::CallCount => {
             let count = count_line(words, b"calls", 512)?;
             reader.stage = calls_to_come(count as usize);
             Ok(())
         }
-        (Stage::Calls(left), Token::Letters(_, _)) => {
+        Stage::Calls(left) => {
             let call = call_line::<K>(words)?;
-            push_call(&mut reader.level, call);
+            reader.level.calls.push(call);
             reader.stage = calls_to_come(left - 1);
             Ok(())
         }
-        (_, first) => Err(Misplaced(first.place())),
+        Stage::End => unreachable!(),
     }
 }
 
@@ -119,10 +134,9 @@ pub(crate) fn read_line<K: Written>(
     requires short { length line.now ≤ 65536 }
     requires room { Room reader.old }
     ensures told { line_read K.kind K.listed K.bounds result reader.new ≡ read_line (stage_shown reader.old.stage) number (level_shown K.kind K.listed K.bounds reader.old.level) (words_of line.now) }
-    ensures header { reader.new.level.header ≡ reader.old.level.header }
     ensures room { Room reader.new }
 {
-    if reader.stage == Stage::End {
+    if let Stage::End = reader.stage {
         return Err(ReadFault::Line { line: number });
     }
     let mut words = Words::new(line);

@@ -3,7 +3,7 @@ ghost use Rattle.std.specs.Prelude.{◌≡◌, ℕ, ◌≤◌, length};
 ghost use Rattle.index.specs.Outcomes.{gives};
 ghost use Rattle.level_theory.specs.Words.{pieces_of};
 ghost use Rattle.level_theory.specs.Reading.{read_lines, reading};
-ghost use Rattle.level.specs.Levels.{rest_told, told_read, AllFits};
+ghost use Rattle.level.specs.Levels.{rest_told, told_read};
 ghost use Rattle.level.specs.Stages.{Room, shown_progress};
 
 use crate::level::AnyLevel;
@@ -11,7 +11,8 @@ use crate::reader::{Reader, Stage, read_line, start};
 use arm::Arm;
 use card::Card;
 use lines::fault::ReadFault;
-use lines::header::{Kind, read_header};
+use lines::first::read_header;
+use lines::header::Kind;
 use words::cut;
 use written::Written;
 
@@ -20,7 +21,6 @@ fn read_rest<K: Written>(reader: &mut Reader<K, K::Wall>, text: &[u8]) -> Result
     requires room { Room reader.old }
     requires short { length text.now ≤ 65536 }
     ensures told { rest_told K.kind K.listed K.bounds result reader.new.level ≡ read_lines (gives (shown_progress K.kind K.listed K.bounds reader.old)) 2 (pieces_of text.now) }
-    ensures header { reader.new.level.header ≡ reader.old.level.header }
     ensures room { Room reader.new }
 {
     let mut rest = text;
@@ -40,8 +40,7 @@ fn read_rest<K: Written>(reader: &mut Reader<K, K::Wall>, text: &[u8]) -> Result
 // The level that the bytes write, or their first fault. All lines are read before anything is done
 // with the level.
 pub fn read(bytes: &[u8]) -> Result<AnyLevel, ReadFault>
-    ensures told { told_read result ≡ reading bytes.now }
-    ensures fits { AllFits result }
+    ensures { told_read result ≡ reading bytes.now }
 {
     if bytes.len() > 65536 {
         return Err(ReadFault::TooLong);

@@ -5,10 +5,7 @@ use lines::fault::ReadFault;
 
 // The fault, if the file has one.
 pub fn fault(text: &[u8]) -> Option<ReadFault> {
-    match read(text) {
-        Ok(_) => None,
-        Err(fault) => Some(fault),
-    }
+    read(text).err()
 }
 
 // The file is a level.
@@ -35,8 +32,8 @@ pub fn setting(text: &[u8], value: u32) -> bool {
 // How many walls and calls a level has.
 pub fn counts(text: &[u8]) -> (usize, usize) {
     match read(text) {
-        Ok(AnyLevel::Arms(level)) => (level.wall_count, level.call_count),
-        Ok(AnyLevel::Cards(level)) => (level.wall_count, level.call_count),
+        Ok(AnyLevel::Arms(level)) => (level.walls.len(), level.calls.len()),
+        Ok(AnyLevel::Cards(level)) => (level.walls.len(), level.calls.len()),
         Err(_) => (0, 0),
     }
 }

@@ -2,7 +2,7 @@
 use Rattle.std.proofs.Common.{◌≡◌, ℕ, true, false, cond, List, [], ◌∷◌, get_or, Ok, Err, codes, Option, Result, sym, refl, ap, ◌∙◌, arith}
 use Rattle.index.specs.Outcomes.{Outcome, gives, refuses}
 use Rattle.level_theory.specs.Words.{same_bytes, Taken, right, wrong, take_words}
-use Rattle.level_theory.specs.Levels.{Form, LineCall, Level, arms, cards, header_outcome}
+use Rattle.level_theory.specs.Levels.{Kind as Kinds, Form, LineCall, Level, arms, cards, header_outcome}
 use Rattle.level_theory.specs.Reading.{Letter, adds, drops, nears, withins, islands, routes, no_call, letter_of, call_wants, call_of, formed, carried, setting_wants, header_level, header_of, read_header, read_call, read_call_at}
 use Rattle.words.specs.declared.cursor.Misplaced.{Misplaced}
 use Rattle.words.specs.Tokens.{Word}
@@ -13,9 +13,10 @@ use Rattle.lines.specs.declared.calls.CallLine.TheVariants.{Add, Drop, Near, Wit
 use Rattle.lines.specs.declared.fault.ReadFault.{ReadFault}
 use Rattle.lines.specs.declared.header.Kind.{Kind}
 use Rattle.lines.specs.declared.header.Kind.TheVariants.{Arms, Cards}
-use Rattle.lines.specs.declared.header.Header.{Header}
+use Rattle.lines.specs.declared.first.Asked.{Asked}
 use Rattle.lines.specs.Faults.{fault_number, fault_figures, at_line_of}
-use Rattle.lines.specs.Headers.{kind_shown, header_numbers, settings_read, with_kind, header_read}
+use Rattle.lines.specs.Settings.{numbers_if}
+use Rattle.lines.specs.Headers.{kind_shown, asked_numbers, settings_read, with_kind, header_read}
 use Rattle.lines.specs.Calls.{sole, named, letter_shown, call_numbers, call_shown, call_part}
 use Rattle.lines.proofs.Firsts.{letter_word}
 
@@ -73,8 +74,8 @@ pub call_surplus : (ns : List ℕ) (line : ℕ) (letter : Letter) (ws : List (Li
 call_surplus ns line letter ws i m e = ap (λ t. formed line t (λ ns. gives (call_of letter ns))) (surplus ns ws i m e)
 
 -- line 1, its settings looked at last
-abbrev pub header_carried : Result (Kind × Header) ReadFault → Outcome Level
-header_carried (Ok found) = carried 1 (header_outcome found.1.degree found.1.bucket found.1.k) (header_level (kind_shown found.0) (header_numbers found.1))
+abbrev pub header_carried : Result (Kind × Asked) ReadFault → Outcome Level
+header_carried (Ok found) = carried 1 (header_outcome found.1.degree found.1.bucket found.1.k) (header_level (kind_shown found.0) (asked_numbers found.1))
 header_carried (Err fault) = refuses (fault_number fault) (fault_figures fault)
 
 arms_carried : (t : Taken) → formed 1 t (λ ns. carried 1 (header_outcome (get_or ns 0 0) (get_or ns 1 0) (get_or ns 2 0)) (header_level arms ns)) ≡ header_carried (at_line_of 1 (with_kind (Ok Arms) (settings_read t)))
@@ -94,3 +95,12 @@ header_is (w ∷ ws) = elim (same_bytes w (codes "arm")) as (λ t. cond t (heade
     | false ↦ refl
   ]
 ]
+
+-- settings that are checked
+pub checked_gives : (kind : Kinds) (o : Outcome Unit) (ms ns : List ℕ) → gives ms ≡ numbers_if o ns → gives (header_level kind ms) ≡ carried 1 o (header_level kind ns)
+checked_gives kind (gives u) ms ns e = let same : ms ≡ ns = cc in ap (λ x. gives (header_level kind x)) same
+checked_gives kind (refuses n figures) ms ns e = cc
+
+pub checked_refuses : (kind : Kinds) (o : Outcome Unit) (n : ℕ) (figures ns : List ℕ) → refuses n figures ≡ numbers_if o ns → refuses n (1 ∷ figures) ≡ carried 1 o (header_level kind ns)
+checked_refuses kind (gives u) n figures ns e = cc
+checked_refuses kind (refuses m others) n figures ns e = let number : n ≡ m = cc in let same : figures ≡ others = cc in rw (number, same)

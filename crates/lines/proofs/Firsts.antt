@@ -1,11 +1,16 @@
 -- The first word of a line, by its token. Assumes nothing.
-use Rattle.std.proofs.Common.{◌≡◌, ℕ, ◌+◌, ◌<◌, Bool, true, false, cond, ◌&&◌, eqb, List, [], ◌∷◌, length, Err, codes, Decides, sym, refl, ap, ◌∙◌, arith, rules, ne_eqb}
+use Rattle.std.proofs.Common.{◌≡◌, ℕ, ◌+◌, ◌<◌, Bool, true, false, cond, ◌&&◌, not, eqb, nat_eq, List, [], ◌∷◌, length, Some, None, Ok, Err, Option, Bor, codes, Decides, sym, refl, ap, ◌∙◌, arith, rules, ne_eqb}
 use mathlib.Core.Bool.{and-false, and-true}
-use Rattle.std.proofs.lemmas.Slice.Eq.{IsBytesEq, compares_Decides}
+use Rattle.std.proofs.lemmas.Slice.Eq.{IsBytesEq, compares_Decides, slice_eq-Decides}
+use Rattle.std.proofs.lemmas.Bool.Decides.{Decides-eqb}
+use Rattle.std.specs.Cmp.Lexicographic.{pointwise}
+use Rattle.std.specs.Option.{ok_or}
 use Rattle.level_theory.specs.Words.{letter, digit, all_bytes, same_bytes, Want, the_word, wrong, take_words}
 use Rattle.level_theory.specs.Reading.{no_call, letter_of, setting_wants}
-use Rattle.words.specs.Tokens.{Word, letters, digits, amiss, word_of, place_of}
+use Rattle.words.specs.declared.cursor.Misplaced.{Misplaced}
+use Rattle.words.specs.Tokens.{Word, letters, digits, amiss, word_of, place_of, letters_of, shown_bytes}
 use Rattle.words.specs.Cursors.{first_word, words_after, place_after}
+use Rattle.lines.specs.declared.header.Kind.TheVariants.{Arms, Cards}
 use Rattle.lines.specs.Headers.{kind_of_letters, kind_named, settings_read, with_kind, header_read}
 use Rattle.lines.specs.Calls.{sole, letter_named, named}
 
@@ -106,3 +111,59 @@ letter_word (b ∷ (c ∷ bs)) i = more_bytes b c bs ∙ elim (all_bytes letter 
   | true ↦ refl
   | false ↦ elim (all_bytes digit (b ∷ (c ∷ bs))) as (λ t. no_call ≡ named (sole (cond t (digits (b ∷ (c ∷ bs)) i) (amiss i)))) [ true ↦ refl | false ↦ refl ]
 ]
+
+-- a word that is not the name
+not_same_bytes : (xs ys : List ℕ) → (xs ≡ ys → ⊥) → same_bytes xs ys ≡ false
+not_same_bytes xs ys n = elim (same_bytes xs ys) as (λ t. same_bytes xs ys ≡ t → t ≡ false) [
+  | true ↦ λ e. absurd (n ((same_decides xs ys).0 e))
+  | false ↦ λ e. refl
+] refl
+
+word_letters : (w : List ℕ) (i : ℕ) (l : List ℕ) → Some l ≡ letters_of (word_of w i) → l ≡ w
+word_letters [] i l e = cc
+word_letters (b ∷ bs) i l e = elim (all_bytes letter (b ∷ bs)) as (λ t. Some l ≡ letters_of (cond t (letters (b ∷ bs) i) (cond (all_bytes digit (b ∷ bs)) (digits (b ∷ bs) i) (amiss i))) → l ≡ b ∷ bs) [
+  | true ↦ λ f. cc
+  | false ↦ elim (all_bytes digit (b ∷ bs)) as (λ t. Some l ≡ letters_of (cond t (digits (b ∷ bs) i) (amiss i)) → l ≡ b ∷ bs) [ true ↦ λ f. cc | false ↦ λ f. cc ]
+] e
+
+none_of_letters : (t : Word) → None ≡ letters_of t → of_letters t ≡ false
+none_of_letters (letters w i) e = cc
+none_of_letters (digits w i) e = refl
+none_of_letters (amiss i) e = refl
+
+pub lacks_name : (name : List ℕ) (xs : List Want) (ws : List (List ℕ)) (i : ℕ) (t : Word) (found : Option (Bor (List ℕ))) (m f : Misplaced) → 0 < length name → all_bytes letter name ≡ true → t ≡ first_word ws i → shown_bytes found ≡ letters_of t → m.0 ≡ place_of t → ok_or found m ≡ Err f → wrong f.0 ≡ take_words (the_word name ∷ xs) ws i
+lacks_name name xs ws i t None m f h a first e g k =
+    let place : f.0 ≡ m.0 = cc in
+    ap wrong (place ∙ g ∙ ap place_of first ∙ place_first ws i)
+    ∙ other_word name xs ws i h a (ap of_letters (sym first) ∙ none_of_letters t e)
+lacks_name name xs ws i t (Some w) m f h a first e g k = cc
+
+pub other_name : (name : List ℕ) (xs : List Want) (ws : List (List ℕ)) (i : ℕ) (t : Word) (l : List ℕ) (p : ℕ) → t ≡ first_word ws i → Some l ≡ letters_of t → p ≡ place_of t → (l ≡ name → ⊥) → wrong p ≡ take_words (the_word name ∷ xs) ws i
+other_name name xs [] i t l p first e g n = let none : Some l ≡ None = e ∙ ap letters_of first in cc
+other_name name xs (w ∷ ws) i t l p first e g n =
+    let own : l ≡ w = word_letters w i l (e ∙ ap letters_of first) in
+    let no : same_bytes name w ≡ false = not_same_bytes name w (λ s. n (own ∙ sym s)) in
+    ap wrong (g ∙ ap place_of first ∙ place_word w i) ∙ ap (λ t. cond t (take_words xs ws (i + 1)) (wrong i)) (sym no)
+
+pub differ : (l name : List ℕ) (r : Bool) → r ≡ not (pointwise nat_eq l name) → r ≡ true → l ≡ name → ⊥
+differ l name r e f s =
+    let same : pointwise nat_eq l name ≡ true = (slice_eq-Decides Decides-eqb l name (pointwise nat_eq l name) refl).1 s in
+    let z : false ≡ true = ap not (sym same) ∙ sym e ∙ f in
+    cc
+
+-- the kind of a word of letters, by its tests
+same_pointwise : (xs ys : List ℕ) → pointwise nat_eq xs ys ≡ same_bytes xs ys
+same_pointwise [] [] = refl
+same_pointwise [] (y ∷ ys) = refl
+same_pointwise (x ∷ xs) [] = refl
+same_pointwise (x ∷ xs) (y ∷ ys) = ap (λ t. eqb x y && t) (same_pointwise xs ys)
+
+pub kind_tested : (t : Word) (w : List ℕ) (p : ℕ) (a b : Bool) → Some w ≡ letters_of t → p ≡ place_of t → a ≡ pointwise nat_eq w (codes "arm") → b ≡ pointwise nat_eq w (codes "card") → cond a (Ok Arms) (cond b (Ok Cards) (Err (record { 0 = p }))) ≡ kind_named t
+kind_tested (letters v i) w p a b e f arm card =
+    let same : w ≡ v = cc in
+    ap (λ x. cond x (Ok Arms) (cond b (Ok Cards) (Err (record { 0 = p })))) (arm ∙ same_pointwise w (codes "arm"))
+    ∙ ap (λ x. cond (same_bytes w (codes "arm")) (Ok Arms) (cond x (Ok Cards) (Err (record { 0 = p })))) (card ∙ same_pointwise w (codes "card"))
+    ∙ ap (kind_of_letters w) f
+    ∙ ap (λ x. kind_of_letters x i) same
+kind_tested (digits v i) w p a b e f arm card = cc
+kind_tested (amiss i) w p a b e f arm card = cc

@@ -1,5 +1,5 @@
 -- What line 1 says.
-use Rattle.std.specs.Prelude.{◌≡◌, ℕ, ◌+◌, cond, List, [], ◌∷◌, Ok, Err, codes, Result, slice_index}
+use Rattle.std.specs.Prelude.{ℕ, ◌+◌, cond, List, [], ◌∷◌, Ok, Err, codes, Result, slice_index}
 use Rattle.index.specs.Outcomes.{Outcome, gives, refuses}
 use Rattle.level_theory.specs.Words.{same_bytes, Taken, right, wrong, take_words}
 use Rattle.level_theory.specs.Levels.{arms, cards, Level, header_outcome}
@@ -11,7 +11,9 @@ use Rattle.lines.specs.declared.fault.ReadFault.{ReadFault}
 use Rattle.lines.specs.declared.header.Kind.{Kind}
 use Rattle.lines.specs.declared.header.Kind.TheVariants.{Arms, Cards}
 use Rattle.lines.specs.declared.header.Header.{Header}
+use Rattle.lines.specs.declared.first.Asked.{Asked}
 use Rattle.lines.specs.Faults.{fault_number, fault_figures}
+use Rattle.lines.specs.Settings.{header_numbers}
 
 abbrev pub kind_shown : Kind → levels.Kind
 kind_shown Arms = arms
@@ -25,28 +27,23 @@ kind_named (letters w i) = kind_of_letters w i
 kind_named (digits w i) = Err (record { 0 = i })
 kind_named (amiss i) = Err (record { 0 = i })
 
-abbrev pub header_numbers : Header → List ℕ
-header_numbers h = h.degree ∷ (h.bucket ∷ (h.k ∷ []))
+abbrev pub asked_numbers : Asked → List ℕ
+asked_numbers a = a.degree ∷ (a.bucket ∷ (a.k ∷ []))
 
-abbrev pub settings_read : Taken → Result Header Misplaced
+abbrev pub settings_read : Taken → Result Asked Misplaced
 settings_read (right ns) = Ok (record { degree = slice_index ns 0; bucket = slice_index ns 1; k = slice_index ns 2 })
 settings_read (wrong place) = Err (record { 0 = place })
 
-abbrev pub with_kind : Result Kind Misplaced → Result Header Misplaced → Result (Kind × Header) Misplaced
-with_kind (Ok kind) (Ok header) = Ok (kind, header)
+abbrev pub with_kind : Result Kind Misplaced → Result Asked Misplaced → Result (Kind × Asked) Misplaced
+with_kind (Ok kind) (Ok asked) = Ok (kind, asked)
 with_kind (Ok kind) (Err m) = Err m
-with_kind (Err m) header = Err m
+with_kind (Err m) asked = Err m
 
 -- the kind, and then the settings
-abbrev pub header_read : List (List ℕ) → ℕ → Result (Kind × Header) Misplaced
+abbrev pub header_read : List (List ℕ) → ℕ → Result (Kind × Asked) Misplaced
 header_read [] i = Err (record { 0 = i })
 header_read (w ∷ ws) i = with_kind (kind_of_letters w i) (settings_read (take_words setting_wants ws (i + 1)))
 
 abbrev pub header_told : Result (Kind × Header) ReadFault → Outcome Level
 header_told (Ok found) = gives (header_level (kind_shown found.0) (header_numbers found.1))
 header_told (Err fault) = refuses (fault_number fault) (fault_figures fault)
-
--- the settings of a header that is read hold
-abbrev pub SettingsHold : Result (Kind × Header) ReadFault → Type 0
-SettingsHold (Ok found) = header_outcome found.1.degree found.1.bucket found.1.k ≡ gives tt
-SettingsHold (Err fault) = Unit {0}

@@ -1,3 +1,4 @@
 pub mod Faults
+pub mod Settings
 pub mod Headers
 pub mod Calls

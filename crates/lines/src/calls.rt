@@ -5,6 +5,7 @@ ghost use Rattle.level_theory.specs.Levels.{form_of};
 ghost use Rattle.level_theory.specs.Reading.{element_wants, read_call};
 ghost use Rattle.words.specs.Tokens.{shown};
 ghost use Rattle.words.specs.Cursors.{words_left, part, shown_part};
+ghost use Rattle.lines.specs.declared.calls.CallLine.TheVariants.{Island};
 ghost use Rattle.lines.specs.Calls.{sole, named, call_numbers, call_part, call_told, CallNamed};
 
 use words::{Misplaced, Token, Words};
@@ -24,20 +25,22 @@ pub enum CallLine<E> {
     Route(u16, u16),
 }
 
+// What stands where no call is put yet.
+impl<E> Default for CallLine<E> {
+    ghost is_default = { λ call. call ≡ Island 0 };
+
+    fn default() -> CallLine<E> {
+        CallLine::Island(0)
+    }
+}
+
 // The word's letter, if it is a single one.
 fn sole_letter(word: Token) -> Option<char>
     ensures { result ≡ sole (shown word.entry) }
 {
     match word {
-        Token::Letters(letters, _) => {
-            if letters.len() == 1 {
-                Some(char::from(letters[0]))
-            } else {
-                None
-            }
-        }
-        Token::Digits(_, _) => None,
-        Token::Wrong(_) => None,
+        Token::Letters([letter], _) => Some(char::from(*letter)),
+        _ => None,
     }
 }
 

@@ -6,8 +6,7 @@ ghost use Rattle.level_theory.specs.Reading.{count_wants};
 ghost use Rattle.words.specs.Cursors.{words_left, shown_taken};
 ghost use Rattle.written.specs.Wants.{wall_wants};
 
-use crate::texts::is_same;
-use words::{Misplaced, Token, Words};
+use words::{Misplaced, Words};
 use written::Written;
 
 // The section's name, and how many lines it has.
@@ -17,14 +16,11 @@ pub fn count_line(words: &mut Words, name: &[u8], most: u32) -> Result<u32, Misp
     ensures taken { shown_taken (λ n. n ∷ []) result ≡ take_words (count_wants name.now most) (words_left words.old) words.old.place }
     ensures most { IfOk result (λ n. n ≤ most) }
 {
-    match words.next() {
-        Token::Letters(letters, place) => {
-            if !is_same(name, letters) {
-                return Err(Misplaced(place));
-            }
-        }
-        Token::Digits(_, place) => return Err(Misplaced(place)),
-        Token::Wrong(place) => return Err(Misplaced(place)),
+    let word = words.next();
+    let misplaced = Misplaced(word.place());
+    let letters = word.letters().ok_or(misplaced)?;
+    if letters != name {
+        return Err(misplaced);
     }
     let count = words.number(most)?;
     words.end()?;

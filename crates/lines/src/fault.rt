@@ -31,8 +31,5 @@ impl From<Refusal> for ReadFault {
 pub fn at_line<T>(line: usize, read: Result<T, Misplaced>) -> Result<T, ReadFault>
     ensures { result ≡ at_line_of line read }
 {
-    match read {
-        Ok(value) => Ok(value),
-        Err(Misplaced(word)) => Err(ReadFault::Form { line, word }),
-    }
+    read.map_err(|Misplaced(word)| ReadFault::Form { line, word })
 }

@@ -4,6 +4,6 @@
 pub mod calls;
 pub mod counts;
 pub mod fault;
+pub mod first;
 pub mod header;
 pub mod settings;
-mod texts;

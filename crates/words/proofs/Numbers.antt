@@ -1,7 +1,8 @@
 -- The number that a word of digits writes. Assumes nothing.
-use Rattle.std.proofs.Common.{◌≡◌, ℕ, ◌+◌, ◌-◌, ◌*◌, ◌<◌, ◌≤◌, true, false, cond, not, ◌&&◌, ◌||◌, eqb, ltb, leb, ◌⊎◌, List, [], ◌∷◌, length, get_or, drop, Some, None, sym, refl, ap, ◌∙◌, ⊎_elim, arith, eq-eqb, ne_eqb}
+use Rattle.std.proofs.Common.{◌≡◌, ℕ, ◌+◌, ◌-◌, ◌*◌, ◌<◌, ◌≤◌, true, false, cond, not, ◌&&◌, ◌||◌, eqb, ltb, leb, ◌⊎◌, List, [], ◌∷◌, length, get_or, drop, Some, None, Option, IfOk, sym, refl, ap, ◌∙◌, ⊎_elim, arith, eq-eqb, ne_eqb}
 use Rattle.std.proofs.lemmas.Bool.{leb-true, and_parts, and_from, and_left, and_right, le-leb, lt-leb, lt-ltb, le-ltb, or_left, or_right, or_from, not_from_true, not_from_false}
 use Rattle.std.proofs.lemmas.List.{at_drop_more, at_drop_all}
+use Rattle.std.specs.Option.{ok_or}
 use Rattle.std.specs.Str.Parse.{digits_value, digits_value_after}
 use Rattle.std.specs.Char.{digit_value}
 use Rattle.level_theory.specs.Words.{letter, digit, all_bytes, plain, number_word}
@@ -79,3 +80,7 @@ number_most limit w n e = elim (plain w && leb (digits_value 10 w) limit) as (λ
   | true ↦ λ t f. let same : n ≡ digits_value 10 w = cc in let h = leb-true (digits_value 10 w) limit (and_parts (plain w) (leb (digits_value 10 w) limit) t).1 in omega arith
   | false ↦ λ t f. let z : ◌≡◌ {A = ℕ} 0 1 = cc in absurd (omega arith)
 ] refl e
+
+pub number_fits : {E : Type 0} (limit : ℕ) (w : List ℕ) (o : Option ℕ) (e : E) → o ≡ number_word limit w → IfOk (ok_or o e) (λ n. n ≤ limit)
+number_fits limit w None e h = tt
+number_fits limit w (Some n) e h = number_most limit w n h

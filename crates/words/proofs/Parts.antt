@@ -1,7 +1,9 @@
 -- Taking words by tokens, and a whole line in parts. Assumes nothing.
-use Rattle.std.proofs.Common.{◌≡◌, ℕ, ◌+◌, ◌<◌, true, false, cond, List, [], ◌∷◌, ◌++◌, length, Some, None, Option, sym, refl, ap, ◌∙◌, arith}
+use Rattle.std.proofs.Common.{◌≡◌, ℕ, ◌+◌, true, false, cond, List, [], ◌∷◌, ◌++◌, Some, None, Err, Option, Bor, sym, refl, ap, ◌∙◌}
 use Rattle.level_theory.specs.Words.{letter, digit, all_bytes, same_bytes, number_word, Want, the_word, a_number, Taken, right, wrong, with_number, take_words}
-use Rattle.words.specs.Tokens.{Word, letters, digits, amiss, word_of}
+use Rattle.std.specs.Option.{ok_or}
+use Rattle.words.specs.declared.cursor.Misplaced.{Misplaced}
+use Rattle.words.specs.Tokens.{Word, letters, digits, amiss, word_of, place_of, digits_of, shown_bytes}
 use Rattle.words.specs.Cursors.{first_word, words_after, place_after, Part, got, lacks, part_number, part}
 use Rattle.words.proofs.Numbers.{not_digits, no_bytes, letters_no_digits}
 
@@ -13,6 +15,13 @@ abbrev pub from_token : ℕ → Word → List (List ℕ) → ℕ → Part
 from_token limit (letters w p) ws j = lacks p ws j
 from_token limit (digits w p) ws j = read_number (number_word limit w) p ws j
 from_token limit (amiss p) ws j = lacks p ws j
+
+-- a token that has no digits
+pub token_lacks : (limit : ℕ) (t : Word) (ws : List (List ℕ)) (j : ℕ) (found : Option (Bor (List ℕ))) (m f : Misplaced) → shown_bytes found ≡ digits_of t → m.0 ≡ place_of t → ok_or found m ≡ Err f → lacks f.0 ws j ≡ from_token limit t ws j
+token_lacks limit (letters w p) ws j None m f e g h = let same : f.0 ≡ m.0 = cc in ap (λ x. lacks x ws j) (same ∙ g)
+token_lacks limit (digits w p) ws j None m f e g h = cc
+token_lacks limit (amiss p) ws j None m f e g h = let same : f.0 ≡ m.0 = cc in ap (λ x. lacks x ws j) (same ∙ g)
+token_lacks limit t ws j (Some ds) m f e g h = cc
 
 single : (o : Option ℕ) (i : ℕ) (ws : List (List ℕ)) → part_number o i ws (got [] ws (i + 1)) ≡ read_number o i ws (i + 1)
 single None i ws = refl
@@ -32,26 +41,6 @@ word_number limit (b ∷ bs) i ws = elim (all_bytes letter (b ∷ bs)) as (λ t.
 pub by_token : (limit : ℕ) (ws : List (List ℕ)) (i : ℕ) → part (a_number limit ∷ []) ws i ≡ from_token limit (first_word ws i) (words_after ws) (place_after ws i)
 by_token limit [] i = refl
 by_token limit (w ∷ ws) i = single (number_word limit w) i ws ∙ word_number limit w i ws
-
--- what a token of digits holds
-abbrev pub DigitsWord : Word → Type 0
-DigitsWord (letters w p) = Unit {0}
-DigitsWord (digits w p) = (0 < length w) × (all_bytes digit w ≡ true)
-DigitsWord (amiss p) = Unit {0}
-
-pub word_digits : (w : List ℕ) (i : ℕ) → DigitsWord (word_of w i)
-word_digits [] i = tt
-word_digits (b ∷ bs) i = elim (all_bytes letter (b ∷ bs)) as (λ t. DigitsWord (cond t (letters (b ∷ bs) i) (cond (all_bytes digit (b ∷ bs)) (digits (b ∷ bs) i) (amiss i)))) [
-  | true ↦ tt
-  | false ↦ elim (all_bytes digit (b ∷ bs)) as (λ t. all_bytes digit (b ∷ bs) ≡ t → DigitsWord (cond t (digits (b ∷ bs) i) (amiss i))) [
-    | true ↦ λ d. (omega arith, d)
-    | false ↦ λ d. tt
-  ] refl
-]
-
-pub first_digits : (ws : List (List ℕ)) (i : ℕ) → DigitsWord (first_word ws i)
-first_digits [] i = tt
-first_digits (w ∷ ws) i = word_digits w i
 
 -- a whole line
 abbrev pub whole : Part → Taken

@@ -1,12 +1,13 @@
 -- What taking words from a line gives, and what it leaves.
 use Rattle.std.specs.Prelude.{ℕ, ◌+◌, cond, List, [], ◌∷◌, Some, None, Ok, Err, Option, Result}
-use Rattle.level_theory.specs.Words.{words_of, same_bytes, number_word, Want, the_word, a_number, Taken, right, wrong}
+use Rattle.level_theory.specs.Words.{same_bytes, number_word, Want, the_word, a_number, Taken, right, wrong}
 use Rattle.words.specs.declared.cursor.Words.{Words}
 use Rattle.words.specs.declared.cursor.Misplaced.{Misplaced}
+use Rattle.words.specs.Rests.{words_in}
 use Rattle.words.specs.Tokens.{Word, word_of, amiss}
 
 abbrev pub words_left : Words → List (List ℕ)
-words_left w = cond w.more (words_of w.rest.now) []
+words_left w = words_in w.rest
 
 -- the first of the words left, at its place; a missing one is amiss
 abbrev pub first_word : List (List ℕ) → ℕ → Word

@@ -1,5 +1,6 @@
 -- The words of a line as tokens.
-use Rattle.std.specs.Prelude.{ℕ, cond, List, [], ◌∷◌}
+use Rattle.std.specs.Prelude.{ℕ, cond, List, [], ◌∷◌, Some, None, Option}
+use Rattle.std.specs.Borrow.{Bor}
 use Rattle.level_theory.specs.Words.{letter, digit, all_bytes}
 use Rattle.words.specs.declared.token.Token.{Token}
 use Rattle.words.specs.declared.token.Token.TheVariants.{Letters, Digits, Wrong}
@@ -23,3 +24,18 @@ abbrev pub place_of : Word → ℕ
 place_of (letters w i) = i
 place_of (digits w i) = i
 place_of (amiss i) = i
+
+-- the bytes of a word of letters, and of one of digits
+abbrev pub letters_of : Word → Option (List ℕ)
+letters_of (letters w i) = Some w
+letters_of (digits w i) = None
+letters_of (amiss i) = None
+
+abbrev pub digits_of : Word → Option (List ℕ)
+digits_of (letters w i) = None
+digits_of (digits w i) = Some w
+digits_of (amiss i) = None
+
+abbrev pub shown_bytes : Option (Bor (List ℕ)) → Option (List ℕ)
+shown_bytes None = None
+shown_bytes (Some bytes) = Some bytes.now

@@ -1,14 +1,14 @@
 // A place among the words of a line.
-ghost use Rattle.std.specs.Prelude.{◌+◌, ◌≤◌, length, if◌then◌else◌};
+ghost use Rattle.std.specs.Prelude.{◌+◌, ◌≤◌};
+ghost use Rattle.words.specs.Rests.{room};
 
-// The words that are left of a line of at most 65,536 bytes: `rest` holds them if there are `more`,
+// The words that are left of a line of at most 65,536 bytes: `rest` holds them, if there are any,
 // and the first of them stands at `place`, counted from 1.
 #[derive(Clone, Copy, Debug)]
 pub struct Words<'a> {
-    pub(crate) rest: &'a [u8],
-    pub(crate) more: bool,
+    pub(crate) rest: Option<&'a [u8]>,
     pub(crate) place: usize,
-    ghost short: { place + length rest.now ≤ (if more then 65537 else 65538) },
+    ghost short: { place + room rest ≤ 65538 },
 }
 
 // The place of the first wrong, missing or surplus word.

@@ -6,10 +6,6 @@ ghost use Rattle.words.specs.Cuts.{Cut};
 pub fn cut<'a>(text: &'a [u8], mark: u8) -> Option<(&'a [u8], &'a [u8])>
     ensures { Cut mark text.now result }
 {
-    for i in 0..text.len() {
-        if text[i] == mark {
-            return Some((&text[0..i], &text[i + 1..]));
-        }
-    }
-    None
+    let at = text.iter().position(|b| *b == mark)?;
+    Some((&text[..at], &text[at + 1..]))
 }

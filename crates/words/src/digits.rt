@@ -3,7 +3,7 @@ ghost use Rattle.std.specs.Prelude.{◌≡◌, ◌<◌, true, length};
 ghost use Rattle.level_theory.specs.Words.{digit, all_bytes, number_word};
 
 // None with a needless leading zero or above the limit. It stops as soon as the limit is passed, so
-// that no number of digits is too large.
+// that no number of digits is too large. A loop: each step of a fold would have to check its sum.
 pub(crate) fn value_of(digits: &[u8], limit: u32) -> Option<u32>
     requires some { 0 < length digits.now }
     requires digits { all_bytes digit digits.now ≡ true }

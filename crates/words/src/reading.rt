@@ -17,8 +17,7 @@ impl<'a> Words<'a> {
         ensures place { result.place ≡ 1 }
     {
         Words {
-            rest: line,
-            more: true,
+            rest: Some(line),
             place: 1,
         }
     }
@@ -30,23 +29,20 @@ impl<'a> Words<'a> {
         ensures place { self.new.place ≡ place_after (words_left self.old) self.old.place }
     {
         let place = self.place;
-        if !self.more {
+        let Some(rest) = self.rest else {
             return Token::Wrong(place);
-        }
-        let rest = self.rest;
+        };
         match cut(rest, b' ') {
             Some((word, behind)) => {
                 *self = Words {
-                    rest: behind,
-                    more: true,
+                    rest: Some(behind),
                     place: place + 1,
                 };
                 Token::of(word, place)
             }
             None => {
                 *self = Words {
-                    rest,
-                    more: false,
+                    rest: None,
                     place: place + 1,
                 };
                 Token::of(rest, place)
@@ -67,24 +63,19 @@ impl<'a> Words<'a> {
         ensures taken { shown_part (λ n. n ∷ []) result self.new ≡ part (a_number limit ∷ []) (words_left self.old) self.old.place }
         ensures most { IfOk result (λ n. n ≤ limit) }
     {
-        match self.next() {
-            Token::Digits(digits, place) => match value_of(digits, limit) {
-                Some(value) => Ok(value),
-                None => Err(Misplaced(place)),
-            },
-            Token::Letters(_, place) => Err(Misplaced(place)),
-            Token::Wrong(place) => Err(Misplaced(place)),
-        }
+        let word = self.next();
+        let misplaced = Misplaced(word.place());
+        let digits = word.digits().ok_or(misplaced)?;
+        value_of(digits, limit).ok_or(misplaced)
     }
 
     // No word may be left.
     pub fn end(&self) -> Result<(), Misplaced>
         ensures { result ≡ end_of (words_left self.now) self.now.place }
     {
-        if self.more {
-            Err(Misplaced(self.place))
-        } else {
-            Ok(())
+        match self.rest {
+            Some(_) => Err(Misplaced(self.place)),
+            None => Ok(()),
         }
     }
 }

@@ -1,7 +1,6 @@
 // A word of a line as a token.
 ghost use Rattle.std.specs.Prelude.{◌≡◌};
-ghost use Rattle.level_theory.specs.Words.{letter, digit, all_bytes};
-ghost use Rattle.words.specs.Tokens.{shown, word_of, place_of};
+ghost use Rattle.words.specs.Tokens.{shown, word_of, place_of, letters_of, digits_of, shown_bytes};
 
 // The letters or digits are the line's own bytes, with the word's place from 1. An empty word, or
 // one of other bytes, is wrong, and so is one that is missing.
@@ -12,40 +11,6 @@ pub enum Token<'a> {
     Wrong(usize),
 }
 
-fn is_letter(b: u8) -> bool
-    ensures { result ≡ letter b }
-{
-    b'a' <= b && b <= b'z'
-}
-
-fn is_digit(b: u8) -> bool
-    ensures { result ≡ digit b }
-{
-    b'0' <= b && b <= b'9'
-}
-
-fn all_letters(word: &[u8]) -> bool
-    ensures { result ≡ all_bytes letter word.now }
-{
-    for b in word {
-        if !is_letter(*b) {
-            return false;
-        }
-    }
-    true
-}
-
-fn all_digits(word: &[u8]) -> bool
-    ensures { result ≡ all_bytes digit word.now }
-{
-    for b in word {
-        if !is_digit(*b) {
-            return false;
-        }
-    }
-    true
-}
-
 impl<'a> Token<'a> {
     // The token of a word at its place.
     pub(crate) fn of(word: &'a [u8], place: usize) -> Token<'a>
@@ -53,9 +18,9 @@ impl<'a> Token<'a> {
     {
         if word.is_empty() {
             Token::Wrong(place)
-        } else if all_letters(word) {
+        } else if word.iter().all(|b| b.is_ascii_lowercase()) {
             Token::Letters(word, place)
-        } else if all_digits(word) {
+        } else if word.iter().all(|b| b.is_ascii_digit()) {
             Token::Digits(word, place)
         } else {
             Token::Wrong(place)
@@ -67,6 +32,26 @@ impl<'a> Token<'a> {
     {
         match self {
             Token::Letters(_, place) | Token::Digits(_, place) | Token::Wrong(place) => place,
+        }
+    }
+
+    // The letters of a word of letters.
+    pub fn letters(self) -> Option<&'a [u8]>
+        ensures { shown_bytes result ≡ letters_of (shown self.entry) }
+    {
+        match self {
+            Token::Letters(letters, _) => Some(letters),
+            _ => None,
+        }
+    }
+
+    // The digits of a word of digits.
+    pub fn digits(self) -> Option<&'a [u8]>
+        ensures { shown_bytes result ≡ digits_of (shown self.entry) }
+    {
+        match self {
+            Token::Digits(digits, _) => Some(digits),
+            _ => None,
         }
     }
 }

@@ -1,6 +1,13 @@
 -- The steps of loops that take numbers, and that copy them. Assumes nothing.
-use Rattle.std.proofs.Common.{◌≡◌, ℕ, suc, ◌+◌, ◌-◌, ◌*◌, ◌<◌, List, [], ◌∷◌, ◌++◌, length, get_or, take, set, sym, refl, ap, ◌∙◌, append_assoc, arith}
-use Rattle.std.proofs.lemmas.List.{take_more, take_more_set}
+use Rattle.std.proofs.Common.{◌≡◌, ℕ, zero, suc, ◌+◌, ◌-◌, ◌*◌, ◌<◌, ◌≤◌, ◌≢◌, true, false, eqb, subst, add-one, List, [], ◌∷◌, ◌++◌, length, get_or, take, set, sym, refl, ap, ◌∙◌, append_assoc, arith}
+use Rattle.std.proofs.lemmas.List.{take_more, take_more_set, take_all, flat_map_more}
+use Rattle.std.proofs.lemmas.Bool.{eqb-true, eqb-false}
+use denote.Param.Members.{Mut}
+use Rattle.std.specs.Fn.{Called}
+use Rattle.std.specs.Array.{IsFromFnResultFrom}
+use Rattle.std.specs.List.{flat_map}
+use Rattle.walls.specs.declared.arc.Arc.{Arc}
+use Rattle.written.specs.Arms.{arc_numbers}
 use Rattle.level_theory.specs.Words.{a_number}
 use Rattle.level_theory.specs.Reading.{number_wants}
 use Rattle.words.specs.Cursors.{Part, got, lacks, part}
@@ -38,3 +45,36 @@ take_two ns i h =
     ∙ take_more ns (2 * i + 1) 0 h
     ∙ ap (λ front. front ++ (get_or ns (2 * i + 1) 0 ∷ [])) (take_more ns (2 * i) 0 (omega arith))
     ∙ append_assoc (take (2 * i) ns) (get_or ns (2 * i) 0 ∷ []) (get_or ns (2 * i + 1) 0 ∷ [])
+
+-- arcs that are made of two numbers each
+abbrev pub arc_at : List ℕ → ℕ → Arc
+arc_at ns i = record { start = get_or ns (2 * i) 0; extent = get_or ns (2 * i + 1) 0 }
+
+pub arcs_front : (arcs : List Arc) (ns : List ℕ) (n k : ℕ) → length arcs ≡ n → length ns ≡ 2 * n → ((i : ℕ) (e : Arc) → i < n → get_or arcs i e ≡ arc_at ns i) → k ≤ n → flat_map arc_numbers (take k arcs) ≡ take (2 * k) ns
+arcs_front arcs ns n zero long all each h = refl
+arcs_front arcs ns n (suc k) long all each h =
+    ap (λ t. flat_map arc_numbers (take t arcs)) (sym (add-one k))
+    ∙ ap (flat_map arc_numbers) (take_more arcs k (arc_at ns k) (omega arith))
+    ∙ sym (flat_map_more arc_numbers [] (take k arcs) (get_or arcs k (arc_at ns k)))
+    ∙ ap (λ a. flat_map arc_numbers (take k arcs) ++ arc_numbers a) (each k (arc_at ns k) (omega arith))
+    ∙ ap (λ front. front ++ arc_numbers (arc_at ns k)) (arcs_front arcs ns n k long all each (omega arith))
+    ∙ sym (take_two ns k (omega arith))
+    ∙ ap (λ t. take (2 * t) ns) (add-one k)
+
+pub arcs_all : (arcs : List Arc) (ns : List ℕ) (n : ℕ) → length arcs ≡ n → length ns ≡ 2 * n → ((i : ℕ) (e : Arc) → i < n → get_or arcs i e ≡ arc_at ns i) → flat_map arc_numbers arcs ≡ ns
+arcs_all arcs ns n long all each =
+    ap (flat_map arc_numbers) (sym (take_all n arcs (omega arith)))
+    ∙ arcs_front arcs ns n n long all each (omega arith)
+    ∙ take_all (2 * n) ns (omega arith)
+
+-- what an array is made of, by a closure that stays as it is
+module _ {F B : Type 0} (g : Mut F (ℕ × Unit {0}) B) (f : F) (made : ℕ → B) (calls : (i : ℕ) (y : B) (q : F) → Called g f (i, tt) y q → (q ≡ f) × (y ≡ made i)) where
+  pub from_calls : (ys : List B) (n i : ℕ) (p : F) → p ≡ f → IsFromFnResultFrom g p ys i n → (k : ℕ) (e : B) → i ≤ k → k < i + n → get_or ys k e ≡ made k
+  from_calls ys zero i p same each k e l h = absurd (omega arith)
+  from_calls ys (suc n) i p same each k e l h =
+      let call : Called g f (i, tt) each.1 each.0 = subst (λ x. Called g x (i, tt) each.1 each.0) same each.3 in
+      let first = calls i each.1 each.0 call in
+      elim (eqb k i) as (λ t. eqb k i ≡ t → get_or ys k e ≡ made k) [
+        | true ↦ λ t. let at : k ≡ i = eqb-true k i t in subst (λ x. get_or ys x e ≡ made x) (sym at) (each.2.1 e ∙ first.1)
+        | false ↦ λ t. let other : k ≢ i = eqb-false k i t in from_calls ys n (i + 1) each.0 first.0 each.4 k e (omega arith) (omega arith)
+      ] refl

@@ -1,11 +1,12 @@
 // Arms as they are written.
-ghost use Rattle.std.specs.Prelude.{◌≡◌};
+ghost use Rattle.std.specs.Prelude.{◌≡◌, refl};
 ghost use Rattle.level_theory.specs.Levels.{arms};
 ghost use Rattle.written.specs.Arms.{arm_numbers, arm_of, arm_faithful, wall_numbers, wall_of, wall_faithful};
 
 use crate::numbers::take_numbers;
 use crate::written::Written;
 use arm::Arm;
+use std::array;
 use walls::{Arc, Wall};
 use words::{Misplaced, Words};
 
@@ -13,17 +14,12 @@ use words::{Misplaced, Words};
 fn arcs(numbers: [u16; 12]) -> Wall
     ensures { wall_numbers result ≡ numbers }
 {
-    let mut arcs = [Arc {
-        start: 0,
-        extent: 0,
-    }; 6];
-    for i in 0..6 {
-        arcs[i] = Arc {
+    Wall {
+        arcs: array::from_fn(|i| Arc {
             start: numbers[2 * i],
             extent: numbers[2 * i + 1],
-        };
+        }),
     }
-    Wall { arcs }
 }
 
 impl Written for Arm {
@@ -43,17 +39,17 @@ impl Written for Arm {
 
     ghost steady = { wall_faithful };
 
+    ghost COUNT = { 6 };
+
     const COUNT: usize = 6;
+
+    ghost LARGEST = { 4095 };
 
     const LARGEST: u16 = 4095;
 
-    fn number_count() -> usize {
-        Self::COUNT
-    }
+    ghost counted = { refl };
 
-    fn number_limit() -> u16 {
-        Self::LARGEST
-    }
+    ghost limited = { refl };
 
     fn from_words(words: &mut Words) -> Result<Self, Misplaced> {
         let angles = take_numbers::<{ Self::COUNT }>(words, Self::LARGEST)?;
@@ -63,14 +59,5 @@ impl Written for Arm {
     fn wall_from_words(words: &mut Words) -> Result<Wall, Misplaced> {
         let numbers = take_numbers::<12>(words, Self::LARGEST)?;
         Ok(arcs(numbers))
-    }
-
-    fn blank_wall() -> Wall {
-        Wall {
-            arcs: [Arc {
-                start: 0,
-                extent: 0,
-            }; 6],
-        }
     }
 }

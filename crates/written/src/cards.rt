@@ -1,5 +1,5 @@
 // Cards as they are written.
-ghost use Rattle.std.specs.Prelude.{◌≡◌, ℕ, ◌<◌, ◌≤◌, slice_index};
+ghost use Rattle.std.specs.Prelude.{◌≡◌, ℕ, ◌<◌, ◌≤◌, slice_index, refl};
 ghost use Rattle.level_theory.specs.Levels.{cards};
 ghost use Rattle.written.specs.Cards.{card_numbers, card_of, card_faithful, wall_numbers, wall_of, wall_faithful};
 
@@ -7,6 +7,7 @@ use crate::numbers::take_numbers;
 use crate::written::Written;
 use card::Card;
 use card_checker::CardWall;
+use std::array;
 use words::{Misplaced, Words};
 
 // The numbers as bytes.
@@ -14,11 +15,7 @@ fn bytes(numbers: [u16; 8]) -> [u8; 8]
     requires { (k : ℕ) → k < 8 → slice_index numbers k ≤ 255 }
     ensures { result ≡ numbers }
 {
-    let mut bytes = [0; 8];
-    for i in 0..8 {
-        bytes[i] = numbers[i] as u8;
-    }
-    bytes
+    array::from_fn(|i| numbers[i] as u8)
 }
 
 impl Written for Card {
@@ -38,17 +35,17 @@ impl Written for Card {
 
     ghost steady = { wall_faithful };
 
+    ghost COUNT = { 8 };
+
     const COUNT: usize = 8;
+
+    ghost LARGEST = { 255 };
 
     const LARGEST: u16 = 255;
 
-    fn number_count() -> usize {
-        Self::COUNT
-    }
+    ghost counted = { refl };
 
-    fn number_limit() -> u16 {
-        Self::LARGEST
-    }
+    ghost limited = { refl };
 
     fn from_words(words: &mut Words) -> Result<Self, Misplaced> {
         let numbers = take_numbers::<{ Self::COUNT }>(words, Self::LARGEST)?;
@@ -62,9 +59,5 @@ impl Written for Card {
         Ok(CardWall {
             slots: bytes(numbers),
         })
-    }
-
-    fn blank_wall() -> CardWall {
-        CardWall { slots: [0; 8] }
     }
 }

@@ -1,5 +1,5 @@
 // Numbers in a row.
-ghost use Rattle.std.specs.Prelude.{◌≡◌, ℕ, ◌<◌, ◌≤◌, length, IfOk, slice_index};
+ghost use Rattle.std.specs.Prelude.{◌≡◌, ℕ, ◌<◌, ◌≤◌, IfOk, slice_index};
 ghost use Rattle.level_theory.specs.Reading.{number_wants};
 ghost use Rattle.words.specs.Cursors.{words_left, part, shown_part};
 
@@ -14,8 +14,8 @@ pub(crate) fn take_numbers<const N: usize>(
     ensures most { IfOk result (λ ns. (k : ℕ) → k < N → slice_index ns k ≤ largest) }
 {
     let mut numbers = [0; N];
-    for i in 0..N {
-        numbers[i] = words.number(u32::from(largest))? as u16;
+    for number in &mut numbers {
+        *number = words.number(u32::from(largest))? as u16;
     }
     Ok(numbers)
 }

@@ -1,5 +1,5 @@
 // A kind of element that can be read from a line.
-ghost use Rattle.std.specs.Prelude.{◌≡◌, ℕ, List, replicate};
+ghost use Rattle.std.specs.Prelude.{◌≡◌, ℕ, List};
 ghost use Rattle.level_theory.specs.Levels.{Kind, form_of};
 ghost use Rattle.level_theory.specs.Reading.{element_wants};
 ghost use Rattle.words.specs.Cursors.{words_left, part, shown_part};
@@ -28,17 +28,14 @@ pub trait Written: Metric {
     ghost steady: { (w : Self.Wall) → built (bounds w) ≡ w };
 
     // How many numbers an element has.
+    ghost COUNT: { ℕ };
+
     const COUNT: usize;
 
     // The largest that a number of an element or wall may be.
+    ghost LARGEST: { ℕ };
+
     const LARGEST: u16;
-
-    // The constants. A clause cannot name them, so these calls say what they are.
-    fn number_count() -> usize
-        ensures { result ≡ (form_of kind).numbers };
-
-    fn number_limit() -> u16
-        ensures { result ≡ (form_of kind).largest };
 
     // Takes the words of an element.
     fn from_words(words: &mut Words) -> Result<Self, Misplaced>
@@ -48,7 +45,7 @@ pub trait Written: Metric {
     fn wall_from_words(words: &mut Words) -> Result<Self::Wall, Misplaced>
         ensures { shown_part bounds result words.new ≡ part (wall_wants (form_of kind)) (words_left words.old) words.old.place };
 
-    // A wall to fill a place with until one is read: all its numbers are 0.
-    fn blank_wall() -> Self::Wall
-        ensures { bounds result ≡ replicate (form_of kind).wall_numbers 0 };
+    ghost counted: { COUNT ≡ (form_of kind).numbers };
+
+    ghost limited: { LARGEST ≡ (form_of kind).largest };
 }

@@ -1,20 +1,16 @@
-use Rattle.std.proofs.Common.{◌≡◌, sym, refl, ap, ◌∙◌, rules}
+use Rattle.std.proofs.Common.{sym, ap, ◌∙◌}
 use Rattle.level_theory.specs.Reading.{read_line}
-use Rattle.level.specs.declared.reader.Stage.TheVariants.{End}
 use Rattle.level.specs.Levels.{level_shown}
 use Rattle.level.specs.Stages.{stage_shown, line_read}
 use Rattle.level_theory.specs.Words.{words_of}
 use Rattle.level.proofs.Files.{line_at}
 use Rattle.level.proofs.reader.read_line.Goals as goal
 
-pub returns-then-eq : goal.returns-then-eq
-returns-then-eq g c =
-    let e : c.args.reader.now.stage ≡ End = search rules in
-    record {
-      told = ap (λ s. read_line (stage_shown s) c.args.number (level_shown g.K.Written.kind g.K.Written.listed g.K.Written.bounds c.args.reader.now.level) (words_of c.args.line.now)) (sym e);
-      header = refl;
-      room = c.requires.room;
-    }
+pub returns-in-End : goal.returns-in-End
+returns-in-End g c = record {
+  told = ap (λ s. read_line (stage_shown s) c.args.number (level_shown g.K.Written.kind g.K.Written.listed g.K.Written.bounds c.args.reader.now.level) (words_of c.args.line.now)) (sym c.in-End.is);
+  room = c.requires.room;
+}
 
 pub returns : goal.returns
 returns g c = record {
@@ -22,6 +18,5 @@ returns g c = record {
       ∙ line_at g.K.Written.kind g.K.Written.listed g.K.Written.bounds c.args.number c.take_line-taken.result c.take_line-taken.new.reader
       ∙ c.take_line-taken.ensures.told c.args.number
       ∙ ap (read_line (stage_shown c.args.reader.now.stage) c.args.number (level_shown g.K.Written.kind g.K.Written.listed g.K.Written.bounds c.args.reader.now.level)) c.new-words.ensures.left;
-  header = c.take_line-taken.ensures.header;
   room = c.take_line-taken.ensures.room;
 }

@@ -5,7 +5,7 @@ use Rattle.level_theory.specs.Reading.{setting_wants}
 use Rattle.words.specs.Cursors.{words_left, words_after, place_after}
 use Rattle.lines.specs.Headers.{kind_named, settings_read, with_kind}
 use Rattle.lines.proofs.Firsts.{header_by_word}
-use Rattle.lines.proofs.header.header_words.Goals as goal
+use Rattle.lines.proofs.first.header_words.Goals as goal
 
 pub returns-in_err-kind : goal.returns-in_err-kind
 returns-in_err-kind c =
