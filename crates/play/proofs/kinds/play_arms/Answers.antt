@@ -1,5 +1,5 @@
 use Rattle.play.proofs.Asked.{arms_answered}
 use Rattle.play.proofs.kinds.play_arms.Goals as goal
 
-pub returns : goal.returns
-returns c = arms_answered _ _ _ _ _ _ c.play_level.ensures
+pub returns-clause-answered : goal.returns-clause-answered
+returns-clause-answered c = arms_answered _ _ _ _ _ _ c.play_level.ensures.answered

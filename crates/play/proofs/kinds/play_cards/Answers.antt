@@ -1,5 +1,5 @@
 use Rattle.play.proofs.Asked.{cards_answered}
 use Rattle.play.proofs.kinds.play_cards.Goals as goal
 
-pub returns : goal.returns
-returns c = cards_answered _ _ _ _ _ _ c.play_level.ensures
+pub returns-clause-answered : goal.returns-clause-answered
+returns-clause-answered c = cards_answered _ _ _ _ _ _ c.play_level.ensures.answered
