@@ -1,14 +1,12 @@
 -- The calls of a level as they are read, and as a history has them.
-use Rattle.std.proofs.Common.{◌≡◌, ℕ, Bool, List, [], ◌∷◌, map, sym, refl, ap, ◌∙◌, subst}
+use Rattle.std.proofs.Common.{◌≡◌, ℕ, Bool, List, [], ◌∷◌, map, sym, refl, ap, subst}
 use Rattle.index.specs.Outcomes.{Outcome}
 use Rattle.arm.specs.declared.Arm.{Arm}
 use Rattle.arm.specs.Poses.{pose_distance}
-use Rattle.walls.specs.declared.wall.Wall.{Wall}
 use Rattle.arm_checkers.specs.declared.step.StepChecker.{StepChecker}
 use Rattle.arm_checkers.specs.Passes.{step_passes}
 use Rattle.card.specs.declared.Card.{Card}
 use Rattle.card.specs.Cards.{card_distance}
-use Rattle.card_checker.specs.declared.CardWall.{CardWall}
 use Rattle.card_checker.specs.declared.MixChecker.{MixChecker}
 use Rattle.card_checker.specs.Passes.{mix_passes}
 use Rattle.level_theory.specs.Levels.{arms, cards}
@@ -49,15 +47,15 @@ abbrev mix_pairs : MixChecker → Card → Card → Bool
 mix_pairs c = mix_passes c.walls.now
 
 -- levels of arms
-pub arms_answered : (checker : StepChecker) (walls : List Wall) (lent lines : List (CallLine Arm)) (k : ℕ) (out : List ℕ) (o : Outcome ℕ) (after : List ℕ) → checker.walls.now ≡ walls → lent ≡ lines → Answered pose_distance (start k 64) (map (λ l. set_call step_pairs (line_call l checker)) lent) blank_lists 0 0 out o after → KindAnswered arms k (map arm_written.wall_numbers walls) (map (call_shown arm_written.arm_numbers) lines) out o after
-arms_answered checker walls lent lines k out o after e f x =
+pub arms_answered : (checker : StepChecker) (lines : List (CallLine Arm)) (k : ℕ) (out : List ℕ) (o : Outcome ℕ) (after : List ℕ) → Answered pose_distance (start k 64) (map (λ l. set_call step_pairs (line_call l checker)) lines) blank_lists 0 0 out o after → KindAnswered arms k (map arm_written.wall_numbers checker.walls.now) (map (call_shown arm_written.arm_numbers) lines) out o after
+arms_answered checker lines k out o after x =
     let P : List (Call Arm (Pairs Arm)) → Type 0 = λ cs. Answered pose_distance (start k 64) cs blank_lists 0 0 out o after in
-    let pairs : step_passes (map arm_written.wall_of (map arm_written.wall_numbers walls)) ≡ step_passes checker.walls.now = ap step_passes (built_back arm_written.wall_numbers arm_written.wall_of arm_written.wall_faithful walls ∙ sym e) in
-    subst P (ap (map (λ l. set_call step_pairs (line_call l checker))) f ∙ sym (all_calls arm_written.arm_numbers arm_written.arm_of arm_written.arm_faithful step_pairs checker (step_passes (map arm_written.wall_of (map arm_written.wall_numbers walls))) pairs lines)) x
+    let walls : step_passes (map arm_written.wall_of (map arm_written.wall_numbers checker.walls.now)) ≡ step_passes checker.walls.now = ap step_passes (built_back arm_written.wall_numbers arm_written.wall_of arm_written.wall_faithful checker.walls.now) in
+    subst P (sym (all_calls arm_written.arm_numbers arm_written.arm_of arm_written.arm_faithful step_pairs checker (step_passes (map arm_written.wall_of (map arm_written.wall_numbers checker.walls.now))) walls lines)) x
 
 -- levels of cards
-pub cards_answered : (checker : MixChecker) (walls : List CardWall) (lent lines : List (CallLine Card)) (k : ℕ) (out : List ℕ) (o : Outcome ℕ) (after : List ℕ) → checker.walls.now ≡ walls → lent ≡ lines → Answered card_distance (start k 64) (map (λ l. set_call mix_pairs (line_call l checker)) lent) blank_lists 0 0 out o after → KindAnswered cards k (map card_written.wall_numbers walls) (map (call_shown card_written.card_numbers) lines) out o after
-cards_answered checker walls lent lines k out o after e f x =
+pub cards_answered : (checker : MixChecker) (lines : List (CallLine Card)) (k : ℕ) (out : List ℕ) (o : Outcome ℕ) (after : List ℕ) → Answered card_distance (start k 64) (map (λ l. set_call mix_pairs (line_call l checker)) lines) blank_lists 0 0 out o after → KindAnswered cards k (map card_written.wall_numbers checker.walls.now) (map (call_shown card_written.card_numbers) lines) out o after
+cards_answered checker lines k out o after x =
     let P : List (Call Card (Pairs Card)) → Type 0 = λ cs. Answered card_distance (start k 64) cs blank_lists 0 0 out o after in
-    let pairs : mix_passes (map card_written.wall_of (map card_written.wall_numbers walls)) ≡ mix_passes checker.walls.now = ap mix_passes (built_back card_written.wall_numbers card_written.wall_of card_written.wall_faithful walls ∙ sym e) in
-    subst P (ap (map (λ l. set_call mix_pairs (line_call l checker))) f ∙ sym (all_calls card_written.card_numbers card_written.card_of card_written.card_faithful mix_pairs checker (mix_passes (map card_written.wall_of (map card_written.wall_numbers walls))) pairs lines)) x
+    let walls : mix_passes (map card_written.wall_of (map card_written.wall_numbers checker.walls.now)) ≡ mix_passes checker.walls.now = ap mix_passes (built_back card_written.wall_numbers card_written.wall_of card_written.wall_faithful checker.walls.now) in
+    subst P (sym (all_calls card_written.card_numbers card_written.card_of card_written.card_faithful mix_pairs checker (mix_passes (map card_written.wall_of (map card_written.wall_numbers checker.walls.now))) walls lines)) x

@@ -19,7 +19,7 @@ use Rattle.lines.specs.declared.fault.ReadFault.{ReadFault}
 use Rattle.lines.specs.Faults.{fault_number, fault_figures}
 use Rattle.lines.specs.Calls.{call_shown}
 use Rattle.level.specs.declared.level.Level.{Level as Read}
-use Rattle.level.specs.Levels.{Counted, level_shown}
+use Rattle.level.specs.Levels.{level_shown}
 use Rattle.play.specs.declared.fault.PlayFault.{PlayFault}
 use Rattle.play.specs.declared.fault.PlayFault.TheVariants.{Reading, Output}
 use Rattle.play.specs.Faults.{number_told, list_told, fault_line}
@@ -75,8 +75,7 @@ kind_small : (kind : Kind) (k : ℕ) (walls : List (List ℕ)) (calls : List Lin
 kind_small arms k walls calls out o after h x = answered_small _ _ _ _ 0 0 out o after (omega (arith, length_mapped (level_call arm_of (step_passes (map wall_of walls))) calls)) x
 kind_small cards k walls calls out o after h x = answered_small _ _ _ _ 0 0 out o after (omega (arith, length_mapped (level_call cards_written.card_of (mix_passes (map cards_written.wall_of walls))) calls)) x
 
-pub playing_fits : {E W : Type 0} (kind : Kind) (listed : E → List ℕ) (bounds : W → List ℕ) (level : Read E W) (out : List ℕ) (full : OutputFull) (after : List ℕ) → Counted level → LevelAnswered (level_shown kind listed bounds level) out (refuses 11 (full.0 ∷ [])) after → length (fault_line (Output full)) ≤ 32
-playing_fits kind listed bounds level out full after c x =
-    let m = length_mapped (call_shown listed) (take level.call_count level.calls) in
-    let t = length-take level.call_count level.calls in
-    fault_fits (Output full) (kind_small kind level.header.k (map bounds (take level.wall_count level.walls)) (map (call_shown listed) (take level.call_count level.calls)) out (refuses 11 (full.0 ∷ [])) after (omega (arith, c.few_calls, c.call_room)) x)
+pub playing_fits : {E W : Type 0} (kind : Kind) (listed : E → List ℕ) (bounds : W → List ℕ) (level : Read E W) (out : List ℕ) (full : OutputFull) (after : List ℕ) → length level.calls.items ≤ 512 → LevelAnswered (level_shown kind listed bounds level) out (refuses 11 (full.0 ∷ [])) after → length (fault_line (Output full)) ≤ 32
+playing_fits kind listed bounds level out full after few x =
+    let m = length_mapped (call_shown listed) level.calls.items in
+    fault_fits (Output full) (kind_small kind level.header.k (map bounds level.walls.items) (map (call_shown listed) level.calls.items) out (refuses 11 (full.0 ∷ [])) after (omega arith) x)

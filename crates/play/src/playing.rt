@@ -16,10 +16,8 @@ pub fn play(bytes: &[u8], out: &mut [u8]) -> Result<usize, PlayFault>
     ensures alike { PlaysAlike bytes.now out.old (told_play result) out.new }
     ensures room { FaultFits result }
 {
-    let level = read(bytes)?;
-    let written = match level {
-        AnyLevel::Arms(level) => play_arms(&level, out)?,
-        AnyLevel::Cards(level) => play_cards(&level, out)?,
-    };
-    Ok(written)
+    match read(bytes)? {
+        AnyLevel::Arms(level) => Ok(play_arms(&level, out)?),
+        AnyLevel::Cards(level) => Ok(play_cards(&level, out)?),
+    }
 }

@@ -9,11 +9,11 @@ fn lines_len(out: &[u8], lines: usize) -> usize
     ensures { result ≡ lines_length lines out.now }
 {
     let mut left = lines;
-    for i in 0..out.len() {
+    for (i, byte) in out.iter().enumerate() {
         if left == 0 {
             return i;
         }
-        if out[i] == b'\n' {
+        if *byte == b'\n' {
             left -= 1;
         }
     }

@@ -14,11 +14,11 @@ pub fn show(bytes: &[u8], out: &mut [u8], line: &mut [u8; 32]) -> (usize, usize)
 {
     let played = play(bytes, out);
     let shown = printed(&played, out);
-    match played {
-        Ok(_) => (shown, 0),
-        Err(fault) => match put_fault(&fault, line) {
-            Some(end) => (shown, end),
-            None => unreachable(),
-        },
-    }
+    let Err(fault) = played else {
+        return (shown, 0);
+    };
+    let Some(end) = put_fault(&fault, line) else {
+        unreachable()
+    };
+    (shown, end)
 }
