@@ -1,5 +1,5 @@
 // A kind of element that can be read from a line.
-ghost use Rattle.std.specs.Prelude.{◌≡◌, ℕ, List};
+ghost use Rattle.std.specs.Prelude.{◌≡◌, ℕ, List, replicate};
 ghost use Rattle.level_theory.specs.Levels.{Kind, form_of};
 ghost use Rattle.level_theory.specs.Reading.{element_wants};
 ghost use Rattle.words.specs.Cursors.{words_left, part, shown_part};
@@ -37,6 +37,18 @@ pub trait Written: Metric {
 
     const LARGEST: u16;
 
+    fn number_count() -> usize
+        ensures { result ≡ (form_of kind).numbers }
+    {
+        Self::COUNT
+    }
+
+    fn number_limit() -> u16
+        ensures { result ≡ (form_of kind).largest }
+    {
+        Self::LARGEST
+    }
+
     // Takes the words of an element.
     fn from_words(words: &mut Words) -> Result<Self, Misplaced>
         ensures { shown_part listed result words.new ≡ part (element_wants (form_of kind)) (words_left words.old) words.old.place };
@@ -44,6 +56,10 @@ pub trait Written: Metric {
     // Takes the words of a wall.
     fn wall_from_words(words: &mut Words) -> Result<Self::Wall, Misplaced>
         ensures { shown_part bounds result words.new ≡ part (wall_wants (form_of kind)) (words_left words.old) words.old.place };
+
+    // A wall to fill a place with until one is read: all its numbers are 0.
+    fn blank_wall() -> Self::Wall
+        ensures { bounds result ≡ replicate (form_of kind).wall_numbers 0 };
 
     ghost counted: { COUNT ≡ (form_of kind).numbers };
 
