@@ -10,10 +10,10 @@ use index::refusal::Refusal;
 pub fn choose(degree: u32, bucket: u32) -> Result<Settings, Refusal>
     ensures { told_settings result ≡ settings_outcome degree bucket }
 {
-    if degree < 2 || degree > 8 {
+    if !(2..=8).contains(&degree) {
         return Err(Refusal::Setting(degree));
     }
-    if bucket < degree || bucket > 32 {
+    if !(degree..=32).contains(&bucket) {
         return Err(Refusal::Setting(bucket));
     }
     Ok(Settings {

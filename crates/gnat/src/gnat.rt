@@ -83,9 +83,7 @@ impl<'a, E: Metric> Gnat<'a, E> {
         requires { GnatSound E.dist self.old }
         ensures { Rebuilt E.dist self.old self.new }
     {
-        let count = self.standing;
-        let settings = self.settings;
-        self.root = refile(self.rows, count, settings);
+        self.root = refile(self.rows, self.standing, self.settings);
         self.marked = 0;
     }
 
@@ -96,14 +94,11 @@ impl<'a, E: Metric> Gnat<'a, E> {
         requires numbers { self.old.last < 65535 }
         ensures { FiledNew E.dist self.old e self.new }
     {
-        let standing = self.standing;
-        let in_use = standing + self.marked;
+        let in_use = self.standing + self.marked;
         let number = self.last + 1;
-        let root = self.root;
-        let settings = self.settings;
-        let at = enlist(self.rows, standing, in_use, number, e);
-        self.root = file(self.rows, root, at, settings, 1025);
-        self.standing = standing + 1;
+        let at = enlist(self.rows, self.standing, in_use, number, e);
+        self.root = file(self.rows, self.root, at, self.settings, 1025);
+        self.standing += 1;
         self.last = number;
     }
 
@@ -113,14 +108,11 @@ impl<'a, E: Metric> Gnat<'a, E> {
         requires listed { at < self.old.standing }
         ensures { TakesOut E.dist self.old at self.new }
     {
-        let standing = self.standing;
-        let marked = self.marked;
-        let root = self.root;
         let row = self.row_at(at);
-        let dropped = take_out(self.rows, root, row, 1025);
-        self.marked = unlist(self.rows, at, standing, marked, dropped.freed);
+        let dropped = take_out(self.rows, self.root, row, 1025);
+        self.marked = unlist(self.rows, at, self.standing, self.marked, dropped.freed);
         self.root = dropped.node;
-        self.standing = standing - 1;
+        self.standing -= 1;
     }
 
     // Files an element under the next number, after a rebuild if no row is free.

@@ -3,6 +3,7 @@ use Rattle.std.proofs.Common.{◌≡◌, ℕ, zero, suc, ◌+◌, ◌-◌, ◌<�
 use Rattle.std.specs.List.{slice_get}
 use Rattle.std.proofs.lemmas.List.{get_or_default, get_or_append_left, get_or_push, length_push, append_assoc, take-append-le}
 use Rattle.std.proofs.lemmas.Bool.{le-ltb, eq-eqb, cases_lt}
+use Rattle.metric.specs.Laws.{MetricLaws}
 use Rattle.hits.specs.Samples.{Sample}
 use Rattle.gnat_theory.specs.Choice.{first_from, first_place, removed}
 use Rattle.gnat_theory.specs.Filing.{distances}
@@ -27,6 +28,10 @@ shuffle_map f _ _ (in_turn xs ys zs s t) = in_turn (map f xs) (map f ys) (map f 
 
 level_test : (a m n : ℕ) → (ltb a a || (eqb a a && ltb m n)) ≡ ltb m n
 level_test a m n = λ i. (le-ltb a a (omega arith)) i || ((eq-eqb a a refl) i && ltb m n)
+
+-- no distance is large
+pub never_large : {E : Type 0} {most : ℕ} {dist : E → E → ℕ} → MetricLaws most dist → (e f : E) → dist e f ≤ 1048576
+never_large laws e f = omega (arith, laws.bounded e f, laws.small)
 
 module _ {E : Type 0} (rows : List (Row E)) where
   -- these rows are put down as candidates, in order

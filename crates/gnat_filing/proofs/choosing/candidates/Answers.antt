@@ -1,21 +1,8 @@
 use Rattle.std.proofs.Common.{◌≡◌, ◌+◌, ◌<◌, [], ◌∷◌, ◌++◌, length, get_or, take, sym, subst, arith, rules}
 use Rattle.std.proofs.lemmas.List.{get_or-take, length-take, length-take-le, take_more}
 use Rattle.gnat_filing.specs.Choosing.{CandidateOf}
-use Rattle.gnat_filing.proofs.Candidates.{PutDown, put_more, put_down}
+use Rattle.gnat_filing.proofs.Candidates.{never_large, PutDown, put_more, put_down}
 use Rattle.gnat_filing.proofs.choosing.candidates.Goals as goal
-
-pub push-requires : goal.push-requires
-push-requires g c =
-    let l = c.args.l.now in
-    omega (arith, c.loop-row.invariant.long, length-take c.loop-row.row-index l.rows, c.loop-row-test.true, length-take l.count l.rows, c.requires.count)
-
-pub push-requires-2 : goal.push-requires-2
-push-requires-2 g c =
-    let l = c.args.l.now in
-    omega (arith, c.loop-row.invariant.long, length-take c.loop-row.row-index l.rows, c.loop-row.auto.row-index-end, length-take l.count l.rows, c.requires.count)
-
-pub loop-row-init : goal.loop-row-init
-loop-row-init g c = subst (PutDown c.args.rows.now []) (sym c.new-cs.ensures) (record { long = search rules; each = λ k u. absurd (omega arith) })
 
 pub loop-row-preserved : goal.loop-row-preserved
 loop-row-preserved g c =
@@ -30,7 +17,6 @@ loop-row-preserved g c =
 
 pub returns : goal.returns
 returns g c =
-    let laws = g.E.Metric.laws in
     let l = c.args.l.now in
     let i = c.loop-row.row-index in
     let rows = c.args.rows.now in
@@ -38,5 +24,5 @@ returns g c =
     let whole : length (take l.count l.rows) ≡ l.count = length-take-le l.count l.rows (omega (arith, c.requires.count)) in
     let end : i ≡ l.count = omega (arith, whole, c.loop-row-test.false, c.loop-row.auto.row-index-end) in
     let put = put_more rows (take i l.rows) c.loop-row.cs.items c.args.at c.candidate_of-2.result c.loop-row.invariant c.candidate_of-2.ensures in
-    put_down g.E.Metric.dist (λ e f. omega (arith, laws.bounded e f, laws.small)) rows (take l.count l.rows ++ (c.args.at ∷ [])) c.push-2.new.self.items
+    put_down g.E.Metric.dist (never_large g.E.Metric.laws) rows (take l.count l.rows ++ (c.args.at ∷ [])) c.push-2.new.self.items
     (subst (PutDown rows (take l.count l.rows ++ (c.args.at ∷ []))) (sym c.push-2.ensures.items) (subst (λ z. PutDown rows (take z l.rows ++ (c.args.at ∷ [])) (c.loop-row.cs.items ++ (c.candidate_of-2.result ∷ []))) end put))

@@ -1,13 +1,12 @@
 use Rattle.std.proofs.Common.{◌≡◌, ℕ, ◌<◌, List, length, take, drop, replicate, subst, arith}
 use Rattle.std.proofs.lemmas.List.{length-take-le, length-append, length-drop, take_more_set}
 use Rattle.gnat_filing.specs.Choosing.{Chosen}
-use Rattle.gnat_filing.proofs.Candidates.{chosen_none, chosen_more, chosen_before}
+use Rattle.gnat_filing.proofs.Candidates.{never_large, chosen_none, chosen_more, chosen_before}
 use Rattle.gnat_filing.proofs.choosing.choose.Goals as goal
 
 pub loop-pivot-init : goal.loop-pivot-init
 loop-pivot-init g c =
-    let laws = g.E.Metric.laws in
-    (omega arith, λ xs h. chosen_none g.E.Metric.dist (λ e f. omega (arith, laws.bounded e f, laws.small)) c.args.rows.now c.args.degree c.args.cs.now.items _ xs h)
+    (omega arith, λ xs h. chosen_none g.E.Metric.dist (never_large g.E.Metric.laws) c.args.rows.now c.args.degree c.args.cs.now.items _ xs h)
 
 pub next_pivot-requires : goal.next_pivot-requires
 next_pivot-requires g c =
@@ -19,7 +18,6 @@ next_pivot-requires g c =
 
 pub loop-pivot-preserved : goal.loop-pivot-preserved
 loop-pivot-preserved g c =
-    let laws = g.E.Metric.laws in
     let i = c.loop-pivot.pivot-index in
     let pivots = c.loop-pivot.pivot-items in
     let zeros : List ℕ = replicate 8 0 in
@@ -27,13 +25,12 @@ loop-pivot-preserved g c =
     let below : i < c.args.degree = omega (arith, c.loop-pivot-test.true, size) in
     let lt : i < length pivots = omega (arith, below, size, c.loop-pivot.auto.pivot-items) in (
       omega (arith, c.loop-pivot.invariant.0, c.next_pivot.ensures.one),
-      λ xs h. chosen_more g.E.Metric.dist (λ e f. omega (arith, laws.bounded e f, laws.small)) c.args.rows.now c.args.degree i c.args.cs.now.items c.loop-pivot.cs.items c.next_pivot.new.cs.items pivots c.next_pivot.result xs
+      λ xs h. chosen_more g.E.Metric.dist (never_large g.E.Metric.laws) c.args.rows.now c.args.degree i c.args.cs.now.items c.loop-pivot.cs.items c.next_pivot.new.cs.items pivots c.next_pivot.result xs
           below (omega (arith, c.next_pivot.ensures.one)) (c.loop-pivot.invariant.1 xs h) c.next_pivot.ensures.next _ (take_more_set pivots i c.next_pivot.result lt),
     )
 
 pub returns : goal.returns
 returns g c =
-    let laws = g.E.Metric.laws in
     let dist = g.E.Metric.dist in
     let degree = c.args.degree in
     let pivots = c.loop-pivot.pivot-items in
@@ -44,6 +41,6 @@ returns g c =
     record {
       eight = omega (arith, long, length-append pivots (drop degree zeros), length-drop degree zeros, c.requires.count.0);
       chosen = λ xs h.
-          chosen_before dist (λ e f. omega (arith, laws.bounded e f, laws.small)) c.args.rows.now degree degree c.args.cs.now.items c.loop-pivot.cs.items pivots (drop degree zeros) xs long
+          chosen_before dist (never_large g.E.Metric.laws) c.args.rows.now degree degree c.args.cs.now.items c.loop-pivot.cs.items pivots (drop degree zeros) xs long
           (subst (λ z. Chosen dist c.args.rows.now degree z c.args.cs.now.items c.loop-pivot.cs.items pivots xs) end (c.loop-pivot.invariant.1 xs h));
     }

@@ -2,11 +2,6 @@ use Rattle.std.proofs.Common.{◌<◌, ◌≢◌, length, get_or, sym, ◌∙◌
 use Rattle.gnat_filing.specs.Choosing.{blank, Renewed}
 use Rattle.gnat_filing.proofs.choosing.renew.Goals as goal
 
-pub renewed-requires : goal.renewed-requires
-renewed-requires g c =
-    let i = c.loop-c.c-index in
-    subst (λ z. z.row < length c.args.rows.now) (sym (c.loop-c.invariant.1 i (omega arith))) (c.requires i c.loop-c-test.true)
-
 pub loop-c-preserved : goal.loop-c-preserved
 loop-c-preserved g c =
     let cs = c.loop-c.cs in
@@ -20,6 +15,3 @@ loop-c-preserved g c =
           (subst (R (get_or old i blank)) (sym (get_or-set_same cs i v blank lt)) (subst (λ z. R z v) (c.loop-c.invariant.1 i (omega arith)) c.renewed.ensures)),
       (λ k h. let ne : k ≢ i = omega arith in get_or-set_other cs i k v blank ne ∙ c.loop-c.invariant.1 k (omega arith)),
     )
-
-pub returns : goal.returns
-returns g c k u = c.loop-c.invariant.0 k (omega (arith, c.loop-c-test.false))

@@ -7,6 +7,18 @@ use Rattle.gnat_filing.proofs.Level.{pivoted}
 use Rattle.gnat_filing.proofs.Shrinking.{leaf_dropped, is_drop_branch, pivot_marked, drop_child, drop_near, child_droppable, dropped_below}
 use Rattle.gnat_filing.proofs.dropping.+take_out.Goals as goal
 
+pub slice_bounds-ds-end : goal.slice_bounds-ds-end
+slice_bounds-ds-end g t c =
+    let p = c.requires in
+    let i = is_drop_branch g.E.Metric.dist p.0 c.args.left c.args.rows.now c.args.node c.args.at p.1 p.2 p.3 p.4 c.in-Branch.b c.in-Branch.is in
+    omega (arith, i.ready.most, c.measured-ds.ensures.eight, length-take c.in-Branch.b.count c.measured-ds.result)
+
+pub slice_bounds-closest-end : goal.slice_bounds-closest-end
+slice_bounds-closest-end g t c =
+    let p = c.requires in
+    let i = is_drop_branch g.E.Metric.dist p.0 c.args.left c.args.rows.now c.args.node c.args.at p.1 p.2 p.3 p.4 c.in-Branch.b c.in-Branch.is in
+    omega (arith, i.ready.most, c.measured-ds.ensures.eight, length-take c.in-Branch.b.count c.measured-ds.result)
+
 pub shortened-requires : goal.shortened-requires
 shortened-requires g t c = let p = c.requires in (shows_leaf c.args.rows.now c.args.node c.in-Leaf.l p.1 p.2 c.in-Leaf.is p.4.shows).3
 
@@ -31,18 +43,6 @@ measured-ds-requires g t c =
     let p = c.requires in
     let i = is_drop_branch g.E.Metric.dist p.0 c.args.left rows c.args.node c.args.at p.1 p.2 p.3 p.4 b c.in-Branch.is in
     pivoted rows b (length rows) i.parts p.2 i.ready
-
-pub slice_bounds-ds-end : goal.slice_bounds-ds-end
-slice_bounds-ds-end g t c =
-    let p = c.requires in
-    let i = is_drop_branch g.E.Metric.dist p.0 c.args.left c.args.rows.now c.args.node c.args.at p.1 p.2 p.3 p.4 c.in-Branch.b c.in-Branch.is in
-    omega (arith, i.ready.most, c.measured-ds.ensures.eight, length-take c.in-Branch.b.count c.measured-ds.result)
-
-pub slice_bounds-closest-end : goal.slice_bounds-closest-end
-slice_bounds-closest-end g t c =
-    let p = c.requires in
-    let i = is_drop_branch g.E.Metric.dist p.0 c.args.left c.args.rows.now c.args.node c.args.at p.1 p.2 p.3 p.4 c.in-Branch.b c.in-Branch.is in
-    omega (arith, i.ready.most, c.measured-ds.ensures.eight, length-take c.in-Branch.b.count c.measured-ds.result)
 
 pub closest-j-requires : goal.closest-j-requires
 closest-j-requires g t c =

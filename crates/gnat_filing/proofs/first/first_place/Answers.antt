@@ -1,11 +1,8 @@
 use Rattle.std.proofs.Common.{◌≡◌, ◌+◌, true, false, get_or, sym, ap, ◌∙◌, arith}
 use Rattle.std.proofs.lemmas.List.{get_or_default}
-use Rattle.gnat_filing.proofs.Loops.{some_of, so_far, first_start, first_then, first_else, first_end}
+use Rattle.gnat_filing.proofs.Loops.{some_of, so_far, first_then, first_else, first_end}
 use Rattle.gnat_filing.proofs.first.first_place.Goals as goal
 use Rattle.gnat_filing.proofs.first.first_place.Goals.{then-before, else-before}
-
-pub loop-i-init : goal.loop-i-init
-loop-i-init g c = (omega (arith, c.requires.some), λ test d says. first_start test c.args.xs.now d c.requires.some)
 
 pub loop-i-preserved : goal.loop-i-preserved
 loop-i-preserved g c =
@@ -32,9 +29,6 @@ loop-i-preserved g c =
             inv.1 test d says ∙ first_else test xs d j i lt told ∙ ap (λ z. so_far test xs d z (i + 1)) (sym w.first-is),
       )
     ]
-
-pub returns-clause-below : goal.returns-clause-below
-returns-clause-below g c = c.loop-i.invariant.0
 
 pub returns-clause-first : goal.returns-clause-first
 returns-clause-first g c test says =

@@ -1,6 +1,5 @@
-use Rattle.std.proofs.Common.{◌≡◌, [], length, subst, arith}
+use Rattle.std.proofs.Common.{[], arith}
 use Rattle.gnat_rows.proofs.Only.{only_none}
-use Rattle.gnat_filing.specs.Filling.{Clears}
 use Rattle.gnat_filing.proofs.Clearing.{clears_more}
 use Rattle.gnat_filing.proofs.splitting.clear.Goals as goal
 
@@ -11,8 +10,3 @@ pub loop-pivot-preserved : goal.loop-pivot-preserved
 loop-pivot-preserved g c =
     let j = c.loop-pivot.pivot-index in
     clears_more c.args.rows.now c.loop-pivot.rows c.put_node.new.rows c.put_marked.new.rows c.args.pivots.now j c.loop-pivot-test.true (omega (arith, c.requires j c.loop-pivot-test.true, c.loop-pivot.auto.rows)) c.put_node.ensures c.put_marked.ensures c.loop-pivot.invariant
-
-pub returns : goal.returns
-returns g c =
-    let e : c.loop-pivot.pivot-index ≡ length c.args.pivots.now = omega (arith, c.loop-pivot-test.false, c.loop-pivot.auto.pivot-index-end) in
-    subst (Clears c.args.rows.now c.loop-pivot.rows c.args.pivots.now) e c.loop-pivot.invariant

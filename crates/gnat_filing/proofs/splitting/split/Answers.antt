@@ -4,6 +4,7 @@ use Rattle.std.proofs.lemmas.List.{get_or-take, length-take, length-take-le}
 use Rattle.gnat_rows.specs.Shows.{held}
 use Rattle.gnat_rows.proofs.Apart.{all_left, all_right}
 use Rattle.gnat_rows.proofs.Showing.{holds_within}
+use Rattle.gnat_filing.proofs.Candidates.{never_large}
 use Rattle.gnat_filing.proofs.Assembling.{pivots_within, fillable, assembled}
 use Rattle.gnat_filing.proofs.splitting.split.Goals as goal
 
@@ -24,39 +25,35 @@ candidates-cs-requires g c =
 
 pub clear-requires : goal.clear-requires
 clear-requires g c k u =
-    let laws = g.E.Metric.laws in
     let is = c.choose-pivots.result in
     let below : k < c.args.degree = omega (arith, u, length-take c.args.degree is) in
     subst (λ z. z < length c.args.rows.now) (sym (get_or-take c.args.degree is k 0 below))
-    (pivots_within g.E.Metric.dist (λ e f. omega (arith, laws.bounded e f, laws.small)) c.args.degree c.requires.degree.0 c.requires.degree.1.0 c.args.rows.now c.args.l c.args.at c.requires.degree.1.1
+    (pivots_within g.E.Metric.dist (never_large g.E.Metric.laws) c.args.degree c.requires.degree.0 c.requires.degree.1.0 c.args.rows.now c.args.l c.args.at c.requires.degree.1.1
     c.candidates-cs.result.items c.choose-pivots.new.cs.items c.choose-pivots.result c.choose-pivots.ensures.eight c.candidates-cs.ensures c.choose-pivots.ensures.chosen c.requires.leaf.0 c.requires.leaf.1 k below)
 
 pub bare-b-requires : goal.bare-b-requires
 bare-b-requires g c =
-    let laws = g.E.Metric.laws in
-    let within = pivots_within g.E.Metric.dist (λ e f. omega (arith, laws.bounded e f, laws.small)) c.args.degree c.requires.degree.0 c.requires.degree.1.0 c.args.rows.now c.args.l c.args.at c.requires.degree.1.1
+    let within = pivots_within g.E.Metric.dist (never_large g.E.Metric.laws) c.args.degree c.requires.degree.0 c.requires.degree.1.0 c.args.rows.now c.args.l c.args.at c.requires.degree.1.1
     c.candidates-cs.result.items c.choose-pivots.new.cs.items c.choose-pivots.result c.choose-pivots.ensures.eight c.candidates-cs.ensures c.choose-pivots.ensures.chosen c.requires.leaf.0 c.requires.leaf.1 in
     (c.requires.degree.0, (c.requires.degree.1.0, λ k u. omega (arith, within k u, c.clear.auto.rows)))
 
 pub fill-requires : goal.fill-requires
-fill-requires g c =
-    let laws = g.E.Metric.laws in (
-      c.args.degree,
-      _,
-      take c.args.degree c.choose-pivots.result,
-      _,
-      fillable g.E.Metric.dist (λ e f. omega (arith, laws.bounded e f, laws.small)) c.args.degree c.requires.degree.0 c.requires.degree.1.0 c.args.rows.now c.args.l c.args.at c.requires.degree.1.1
-          c.candidates-cs.result.items c.choose-pivots.new.cs.items c.choose-pivots.result c.choose-pivots.ensures.eight c.candidates-cs.ensures c.choose-pivots.ensures.chosen c.requires.leaf.0 c.requires.leaf.1
-          c.clear.new.rows c.bare-b.result c.clear.ensures c.bare-b.ensures c.as_slice.result.now c.as_slice.ensures.value,
-    )
+fill-requires g c = (
+  c.args.degree,
+  _,
+  take c.args.degree c.choose-pivots.result,
+  _,
+  fillable g.E.Metric.dist (never_large g.E.Metric.laws) c.args.degree c.requires.degree.0 c.requires.degree.1.0 c.args.rows.now c.args.l c.args.at c.requires.degree.1.1
+      c.candidates-cs.result.items c.choose-pivots.new.cs.items c.choose-pivots.result c.choose-pivots.ensures.eight c.candidates-cs.ensures c.choose-pivots.ensures.chosen c.requires.leaf.0 c.requires.leaf.1
+      c.clear.new.rows c.bare-b.result c.clear.ensures c.bare-b.ensures c.as_slice.result.now c.as_slice.ensures.value,
+)
 
 pub returns : goal.returns
 returns g c xs r =
-    let laws = g.E.Metric.laws in
-    let ready = fillable g.E.Metric.dist (λ e f. omega (arith, laws.bounded e f, laws.small)) c.args.degree c.requires.degree.0 c.requires.degree.1.0 c.args.rows.now c.args.l c.args.at c.requires.degree.1.1
+    let ready = fillable g.E.Metric.dist (never_large g.E.Metric.laws) c.args.degree c.requires.degree.0 c.requires.degree.1.0 c.args.rows.now c.args.l c.args.at c.requires.degree.1.1
     c.candidates-cs.result.items c.choose-pivots.new.cs.items c.choose-pivots.result c.choose-pivots.ensures.eight c.candidates-cs.ensures c.choose-pivots.ensures.chosen xs r
     c.clear.new.rows c.bare-b.result c.clear.ensures c.bare-b.ensures c.as_slice.result.now c.as_slice.ensures.value in
-    assembled g.E.Metric.dist (λ e f. omega (arith, laws.bounded e f, laws.small)) c.args.degree c.requires.degree.0 c.requires.degree.1.0 c.args.rows.now c.args.l c.args.at c.requires.degree.1.1
+    assembled g.E.Metric.dist (never_large g.E.Metric.laws) c.args.degree c.requires.degree.0 c.requires.degree.1.0 c.args.rows.now c.args.l c.args.at c.requires.degree.1.1
     c.candidates-cs.result.items c.choose-pivots.new.cs.items c.choose-pivots.result c.choose-pivots.ensures.eight c.candidates-cs.ensures c.choose-pivots.ensures.chosen xs r
     c.clear.new.rows c.bare-b.result c.clear.ensures c.bare-b.ensures c.as_slice.result.now c.as_slice.ensures.value c.fill.new.rows c.fill.new.b
     (c.fill.ensures c.args.degree _ (take c.args.degree c.choose-pivots.result) _ ready)

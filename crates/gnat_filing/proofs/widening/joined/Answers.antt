@@ -1,8 +1,5 @@
-use Rattle.std.proofs.Common.{◌<◌, ◌≢◌, length, get_or, sym, refl, ◌∙◌, subst, arith, length-set, get_or-set_other, get_or-set_same, below_more, rules}
+use Rattle.std.proofs.Common.{◌<◌, ◌≢◌, length, get_or, sym, ◌∙◌, subst, arith, length-set, get_or-set_other, get_or-set_same, below_more}
 use Rattle.gnat_filing.proofs.widening.joined.Goals as goal
-
-pub loop-i-init : goal.loop-i-init
-loop-i-init g c = (search rules, (λ k u. absurd (omega arith)), λ k u. refl)
 
 pub loop-i-preserved : goal.loop-i-preserved
 loop-i-preserved g c =
@@ -18,6 +15,3 @@ loop-i-preserved g c =
           (subst (goal.F-post g c.args.join (get_or c.args.bounds i 0) (get_or ds i 0)) (sym (get_or-set_same r i v 0 lt)) (subst (λ x. goal.F-post g c.args.join x (get_or ds i 0) v) (inv.2 i (omega arith)) c.join.ensures)),
       (λ k h. let ne : k ≢ i = omega arith in get_or-set_other r i k v 0 ne ∙ inv.2 k (omega arith)),
     )
-
-pub returns : goal.returns
-returns g c = record { eight = (search rules, c.loop-i.invariant.0); each = λ k u. c.loop-i.invariant.1 k (omega (arith, c.loop-i-test.false)) }
