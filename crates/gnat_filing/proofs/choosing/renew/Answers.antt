@@ -15,4 +15,3 @@ loop-c-preserved g c =
           (subst (R (get_or old i blank)) (sym (get_or-set_same cs i v blank lt)) (subst (λ z. R z v) (c.loop-c.invariant.1 i (omega arith)) c.renewed.ensures)),
       (λ k h. let ne : k ≢ i = omega arith in get_or-set_other cs i k v blank ne ∙ c.loop-c.invariant.1 k (omega arith)),
     )
-

@@ -10,4 +10,3 @@ pub loop-pivot-preserved : goal.loop-pivot-preserved
 loop-pivot-preserved g c =
     let j = c.loop-pivot.pivot-index in
     clears_more c.args.rows.now c.loop-pivot.rows c.put_node.new.rows c.put_marked.new.rows c.args.pivots.now j c.loop-pivot-test.true (omega (arith, c.requires j c.loop-pivot-test.true, c.loop-pivot.auto.rows)) c.put_node.ensures c.put_marked.ensures c.loop-pivot.invariant
-

@@ -39,14 +39,14 @@ bare-b-requires g c =
 
 pub fill-requires : goal.fill-requires
 fill-requires g c = (
-      c.args.degree,
-      _,
-      take c.args.degree c.choose-pivots.result,
-      _,
-      fillable g.E.Metric.dist (never_large g.E.Metric.laws) c.args.degree c.requires.degree.0 c.requires.degree.1.0 c.args.rows.now c.args.l c.args.at c.requires.degree.1.1
-          c.candidates-cs.result.items c.choose-pivots.new.cs.items c.choose-pivots.result c.choose-pivots.ensures.eight c.candidates-cs.ensures c.choose-pivots.ensures.chosen c.requires.leaf.0 c.requires.leaf.1
-          c.clear.new.rows c.bare-b.result c.clear.ensures c.bare-b.ensures c.as_slice.result.now c.as_slice.ensures.value,
-    )
+  c.args.degree,
+  _,
+  take c.args.degree c.choose-pivots.result,
+  _,
+  fillable g.E.Metric.dist (never_large g.E.Metric.laws) c.args.degree c.requires.degree.0 c.requires.degree.1.0 c.args.rows.now c.args.l c.args.at c.requires.degree.1.1
+      c.candidates-cs.result.items c.choose-pivots.new.cs.items c.choose-pivots.result c.choose-pivots.ensures.eight c.candidates-cs.ensures c.choose-pivots.ensures.chosen c.requires.leaf.0 c.requires.leaf.1
+      c.clear.new.rows c.bare-b.result c.clear.ensures c.bare-b.ensures c.as_slice.result.now c.as_slice.ensures.value,
+)
 
 pub returns : goal.returns
 returns g c xs r =

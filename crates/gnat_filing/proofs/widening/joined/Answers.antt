@@ -15,4 +15,3 @@ loop-i-preserved g c =
           (subst (goal.F-post g c.args.join (get_or c.args.bounds i 0) (get_or ds i 0)) (sym (get_or-set_same r i v 0 lt)) (subst (λ x. goal.F-post g c.args.join x (get_or ds i 0) v) (inv.2 i (omega arith)) c.join.ensures)),
       (λ k h. let ne : k ≢ i = omega arith in get_or-set_other r i k v 0 ne ∙ inv.2 k (omega arith)),
     )
-
