@@ -27,6 +27,7 @@ fn run(rt: &HostRuntime) -> anyhow::Result<()> {
     let names = fs::read_to_string(rt, "names")?;
     let mut count = 0usize;
     let mut agreed = 0usize;
+    // A loop and no chain: an error of `agrees` ends the run.
     for name in names.as_str().lines() {
         count = count.saturating_add(1);
         if agrees(rt, name)? {

@@ -1,5 +1,5 @@
 -- What a play tells, from what reading and playing its calls tell.
-use Rattle.std.proofs.Common.{◌≡◌, ℕ, zero, suc, ◌+◌, ◌≤◌, List, [], ◌∷◌, map, length, get_or, take, codes, decimal, sym, refl, ap, subst, arith, lit<, length-append, length-take}
+use Rattle.std.proofs.Common.{◌≡◌, ℕ, zero, suc, ◌+◌, ◌≤◌, List, [], ◌∷◌, map, length, get_or, codes, decimal, sym, refl, ap, subst, arith, lit<, length-append}
 use Rattle.std.specs.List.{AllByRecursion}
 use Rattle.std.proofs.lemmas.Fmt.{length-decimal-le}
 use Rattle.arm_checkers.specs.Passes.{step_passes}
