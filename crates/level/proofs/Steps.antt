@@ -14,7 +14,7 @@ use Rattle.written.specs.Wants.{wall_wants}
 use Rattle.lines.specs.Calls.{sole, named}
 use Rattle.level.specs.declared.reader.Stage as reader
 use Rattle.level.specs.declared.reader.Stage.TheVariants.{WallCount, Walls, CallCount, Calls, End}
-use Rattle.level.specs.Stages.{stage_shown, SomeLeft, can_begin, first_checked}
+use Rattle.level.specs.Stages.{stage_shown, SomeLeft, can_begin}
 use Rattle.lines.proofs.Firsts.{of_letters, other_word, letter_word, place_first}
 
 module _ (line : ℕ) (level : Meaning) (ws : List (List ℕ)) (i : ℕ) (one : i ≡ 1) (st : Stage) where
@@ -129,16 +129,9 @@ some_digits (digits w i) = refl
 some_digits (amiss i) = refl
 
 -- a line that is wanted, and cannot begin with such a word
-cannot_begin : (line : ℕ) (level : Meaning) (ws : List (List ℕ)) (st : reader.Stage) (t : Word) → t ≡ first_word ws 1 → SomeLeft st → (st ≡ End → ⊥) → can_begin st t ≡ false → refuses 8 (line ∷ (1 ∷ [])) ≡ read_line (stage_shown st) line level ws
+pub cannot_begin : (line : ℕ) (level : Meaning) (ws : List (List ℕ)) (st : reader.Stage) (t : Word) → t ≡ first_word ws 1 → SomeLeft st → (st ≡ End → ⊥) → can_begin st t ≡ false → refuses 8 (line ∷ (1 ∷ [])) ≡ read_line (stage_shown st) line level ws
 cannot_begin line level ws WallCount t first s more f = other_wall_count line level ws at_wall_count t first refl (some_letters t ∙ f)
 cannot_begin line level ws (Walls n) t first s more f = other_wall line level ws (at_walls n) t first n s refl (some_digits t ∙ f)
 cannot_begin line level ws CallCount t first s more f = other_call_count line level ws at_call_count t first refl (some_letters t ∙ f)
 cannot_begin line level ws (Calls n) t first s more f = other_call line level ws (at_calls n) t first n s refl (some_letters t ∙ f)
 cannot_begin line level ws End t first s more f = absurd (more refl)
-
-pub first_refused : (line : ℕ) (level : Meaning) (ws : List (List ℕ)) (st : reader.Stage) (t : Word) (m : Misplaced) → t ≡ first_word ws 1 → SomeLeft st → (st ≡ End → ⊥) → Err m ≡ first_checked st t → refuses 8 (line ∷ (m.0 ∷ [])) ≡ read_line (stage_shown st) line level ws
-first_refused line level ws st t m first s more e = elim (can_begin st t) as (λ b. can_begin st t ≡ b → Err m ≡ cond b (Ok tt) (Err (record { 0 = place_of t })) → refuses 8 (line ∷ (m.0 ∷ [])) ≡ read_line (stage_shown st) line level ws) [
-  | true ↦ λ b f. cc
-  | false ↦ λ b f. let same : m.0 ≡ place_of t = cc in
-      ap (λ i. refuses 8 (line ∷ (i ∷ []))) (same ∙ ap place_of first ∙ place_first ws 1) ∙ cannot_begin line level ws st t first s more b
-] refl e

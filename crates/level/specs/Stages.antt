@@ -61,9 +61,6 @@ can_begin CallCount t = is_some (letters_of t)
 can_begin (Calls n) t = is_some (letters_of t)
 can_begin End t = false
 
-abbrev pub first_checked : Stage → Word → Result Unit Misplaced
-first_checked st t = cond (can_begin st t) (Ok tt) (Err (record { 0 = place_of t }))
-
 pub record Room {E W : Type 0} (r : Reader E W) : Type 0 where
   pub walls : length r.level.walls.items + walls_yet r.stage ≤ 64
   pub calls : length r.level.calls.items + calls_yet r.stage ≤ 512

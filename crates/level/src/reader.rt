@@ -6,7 +6,7 @@ ghost use Rattle.words.specs.Tokens.{shown};
 ghost use Rattle.words.specs.Cursors.{words_left};
 ghost use Rattle.level.specs.declared.reader.Stage.TheVariants.{End};
 ghost use Rattle.level.specs.Levels.{level_shown, empty_level};
-ghost use Rattle.level.specs.Stages.{stage_shown, walls_next, calls_next, first_checked, Room, line_told, line_read};
+ghost use Rattle.level.specs.Stages.{stage_shown, walls_next, calls_next, Room, line_told, line_read};
 
 use crate::level::Level;
 use arrayvec::ArrayVec;
@@ -73,19 +73,6 @@ where
     }
 }
 
-// The line that is wanted has to begin with such a word.
-fn check_first(stage: Stage, first: Token) -> Result<(), Misplaced>
-    ensures { result ≡ first_checked stage (shown first.entry) }
-{
-    match (stage, first) {
-        (Stage::WallCount, Token::Letters(_, _)) => Ok(()),
-        (Stage::Walls(_), Token::Digits(_, _)) => Ok(()),
-        (Stage::CallCount, Token::Letters(_, _)) => Ok(()),
-        (Stage::Calls(_), Token::Letters(_, _)) => Ok(()),
-        _ => Err(Misplaced(first.place())),
-    }
-}
-
 // Takes the words of the line that is wanted, which its first word has to fit.
 fn take_line<K: Written>(
     reader: &mut Reader<K, K::Wall>,
@@ -97,31 +84,30 @@ fn take_line<K: Written>(
     ensures told { (line : ℕ) → line_told line K.kind K.listed K.bounds result reader.new ≡ read_line (stage_shown reader.old.stage) line (level_shown K.kind K.listed K.bounds reader.old.level) (words_left words.old) }
     ensures room { Room reader.new }
 {
-    check_first(reader.stage, words.peek())?;
-    match reader.stage {
-        Stage::WallCount => {
+    match (reader.stage, words.peek()) {
+        (Stage::WallCount, Token::Letters(_, _)) => {
             let count = count_line(words, b"walls", 64)?;
             reader.stage = walls_to_come(count as usize);
             Ok(())
         }
-        Stage::Walls(left) => {
+        (Stage::Walls(left), Token::Digits(_, _)) => {
             let wall = wall_line::<K>(words)?;
             reader.level.walls.push(wall);
             reader.stage = walls_to_come(left - 1);
             Ok(())
         }
-        Stage::CallCount => {
+        (Stage::CallCount, Token::Letters(_, _)) => {
             let count = count_line(words, b"calls", 512)?;
             reader.stage = calls_to_come(count as usize);
             Ok(())
         }
-        Stage::Calls(left) => {
+        (Stage::Calls(left), Token::Letters(_, _)) => {
             let call = call_line::<K>(words)?;
             reader.level.calls.push(call);
             reader.stage = calls_to_come(left - 1);
             Ok(())
         }
-        Stage::End => unreachable!(),
+        (_, first) => Err(Misplaced(first.place())),
     }
 }
 
