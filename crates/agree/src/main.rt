@@ -94,9 +94,8 @@ fn beside<C: Checker<Card>>(
     let Ok(settings) = choose(degree, bucket) else {
         return Err(anyhow!("the settings are refused"));
     };
-    let played = match play(rt.alloc(), calls, settings)? {
-        Ok(played) => played,
-        Err(_) => return Err(anyhow!("the history is not played")),
+    let Ok(played) = play(rt.alloc(), calls, settings)? else {
+        return Err(anyhow!("the history is not played"));
     };
     if told {
         tell_played(rt, calls, &played)?;

@@ -37,17 +37,17 @@ impl Model {
     }
 
     pub fn drop(&mut self, number: u16) -> Result<(), Refusal> {
-        match self.standing.remove(&number) {
-            Some(_) => Ok(()),
-            None => Err(Refusal::NotStanding(number)),
-        }
+        self.standing
+            .remove(&number)
+            .map(|_| ())
+            .ok_or(Refusal::NotStanding(number))
     }
 
     pub fn element(&self, number: u16) -> Result<Card, Refusal> {
-        match self.standing.get(&number) {
-            Some(e) => Ok(*e),
-            None => Err(Refusal::NotStanding(number)),
-        }
+        self.standing
+            .get(&number)
+            .copied()
+            .ok_or(Refusal::NotStanding(number))
     }
 
     pub fn tally(&self) -> (usize, usize, u16) {

@@ -232,9 +232,8 @@ pub fn beside<I: Index<Element = Spot> + Drop>(
     let mut list = [HIT; 12];
     let mut numbers = [NUMBER; 12];
     let mut links = vec![in heap; Links::unlinked(0); capacity]?;
-    let mut road = match Roadmap::new(index, k, links.as_mut_slice()) {
-        Ok(road) => road,
-        Err(_) => return Err(Fail::new("the roadmap is not made")),
+    let Ok(mut road) = Roadmap::new(index, k, links.as_mut_slice()) else {
+        return Err(Fail::new("the roadmap is not made"));
     };
     for _ in 0..120 {
         turn(

@@ -76,10 +76,10 @@ impl Model {
     }
 
     pub fn element(&self, number: u16) -> Result<Spot, Refusal> {
-        match self.standing.get(&number) {
-            Some(spot) => Ok(*spot),
-            None => Err(Refusal::NotStanding(number)),
-        }
+        self.standing
+            .get(&number)
+            .copied()
+            .ok_or(Refusal::NotStanding(number))
     }
 
     // All hits at most `radius` away, in order.
