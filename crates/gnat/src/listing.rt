@@ -28,8 +28,8 @@ pub(crate) fn enlist<E: Metric>(
     at
 }
 
-// Lists the row at `at` behind those that stand, or behind those marked too if it is free. Returns
-// how many are marked.
+// Lists the row at `at` behind those that stand, or behind those marked too if it is free, as the drop from the tree
+// told. Returns how many are marked.
 pub(crate) fn unlist<E: Metric>(
     rows: &mut [Row<E>],
     at: usize,

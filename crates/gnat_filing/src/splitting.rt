@@ -88,7 +88,8 @@ fn fill<E: Metric>(rows: &mut [Row<E>], b: &mut Branch, cs: &[Candidate])
     }
 }
 
-// A leaf and the row `at` become a branch: pivots are chosen, and the others filed below them.
+// A leaf and the row `at` become a branch: pivots are chosen, and the others filed below them. Any degree from 1 on
+// serves, so it comes without a bucket.
 pub fn split<E: Metric>(rows: &mut [Row<E>], l: Leaf, at: u16, degree: usize) -> Node
     requires leaf { LeafFileable 32 rows.old l at }
     requires degree { (1 ≤ degree) × ((degree ≤ 8) × (degree ≤ l.count)) }

@@ -8,6 +8,8 @@ ghost use Rattle.gnat_rows.specs.Rows.{vacant_row, HasRow, with_sample, with_mar
 
 use metric::Metric;
 
+// Leaves and branches are copied out of a row, changed, and written back, so they are small arrays with a count.
+
 // A leaf: the rows of its samples, in the order filed.
 #[derive(Clone, Copy)]
 pub struct Leaf {
@@ -32,7 +34,8 @@ pub enum Node {
 }
 
 // A row. `place` is no part of the sample: the places of all rows, read in order, list the rows that
-// stand by rising number, then those that are marked, then those that are free.
+// stand by rising number, then those that are marked, then those that are free. A marked sample stands no more, and
+// its element still parts the tree: the mark says nothing of whether there is one.
 #[derive(Clone, Copy)]
 pub struct Row<E> {
     pub element: E,

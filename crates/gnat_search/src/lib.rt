@@ -32,7 +32,8 @@ pub struct Found {
     pub measured: u32,
 }
 
-// What the pivots of a branch have shown: the counts then, and which children are struck.
+// What the pivots of a branch have shown: the counts then, and which children are struck. A child keeps its place
+// whether it is struck or not.
 #[derive(Clone, Copy)]
 struct View {
     so_far: Found,

@@ -111,7 +111,8 @@ fn all_fit<E, C>(calls: &[Call<E, C>], hits: usize, numbers: usize) -> Result<()
     Ok(())
 }
 
-// Makes one call on a roadmap.
+// Makes one call on a roadmap. The lists are two parameters: a struct of both would have to promise of each call that they
+// are still the ones that were lent.
 pub fn ask<'a, I: Index + Drop, C: Checker<I::Element>>(
     road: &mut Roadmap<'a, I>,
     call: &Call<I::Element, C>,

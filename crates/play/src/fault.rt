@@ -18,6 +18,7 @@ pub enum PlayFault {
     Output(OutputFull),
 }
 
+// Both by hand, since the contract of a play says which fault `?` makes.
 impl From<ReadFault> for PlayFault {
     ghost from_gives = { λ e r. r ≡ Reading e };
 

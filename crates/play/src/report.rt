@@ -4,7 +4,7 @@ ghost use Rattle.play.specs.Reports.{lines_length, printed_length};
 
 use crate::fault::PlayFault;
 
-// How long the first `lines` lines are, or all bytes if there are fewer.
+// How long the first `lines` lines are, or all bytes if there are fewer. It stops within the text, as no sum does.
 fn lines_len(out: &[u8], lines: usize) -> usize
     ensures { result ≡ lines_length lines out.now }
 {

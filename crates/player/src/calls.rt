@@ -22,7 +22,7 @@ use roadmap::Roadmap;
 #[derive(Clone, Copy, Debug, PartialEq)]
 pub struct OutputFull(pub usize);
 
-// The call of a line, with 16 places for hits and 64 for a route.
+// The call of a line, with 16 places for hits and 64 for a route. It comes of the line and the checker, so it is no `From`.
 fn call_of<E: Copy, C: Copy>(line: &CallLine<E>, checker: &C) -> Call<E, C>
     ensures { result ≡ line_call line.now checker.now }
 {
