@@ -5,7 +5,6 @@ use Rattle.level_theory.specs.Words.{letter, digit, all_bytes, number_word, Want
 use Rattle.level_theory.specs.Levels.{Kind, arms, cards, form_of, LineCall}
 use Rattle.level_theory.specs.Levels.{Level as Meaning}
 use Rattle.level_theory.specs.Reading.{Stage, at_wall_count, at_walls, at_call_count, at_calls, walls_left, calls_left, count_wants, no_call, formed, level_with, number_wants, progress, then_call, read_call, read_call_at, read_line}
-use Rattle.std.specs.Option.{is_some}
 use Rattle.words.specs.declared.cursor.Misplaced.{Misplaced}
 use Rattle.words.specs.Tokens.{Word, letters, digits, amiss, word_of, place_of, letters_of, digits_of}
 use Rattle.words.specs.Cursors.{first_word}
@@ -14,7 +13,7 @@ use Rattle.written.specs.Wants.{wall_wants}
 use Rattle.lines.specs.Calls.{sole, named}
 use Rattle.level.specs.declared.reader.Stage as reader
 use Rattle.level.specs.declared.reader.Stage.TheVariants.{WallCount, Walls, CallCount, Calls, End}
-use Rattle.level.specs.Stages.{stage_shown, SomeLeft, can_begin}
+use Rattle.level.specs.Stages.{stage_shown, SomeLeft}
 use Rattle.lines.proofs.Firsts.{of_letters, other_word, letter_word, place_first}
 
 module _ (line : ℕ) (level : Meaning) (ws : List (List ℕ)) (i : ℕ) (one : i ≡ 1) (st : Stage) where
@@ -118,20 +117,18 @@ module _ (line : ℕ) (level : Meaning) (ws : List (List ℕ)) (st : Stage) (t :
   other_call : (n : ℕ) → 1 ≤ n → st ≡ at_calls n → of_letters t ≡ false → refuses 8 (line ∷ (1 ∷ [])) ≡ read_line st line level ws
   other_call n some e f = call_lacks line level ws 1 refl st n some e 1 (call_first level.kind line ws (ap of_letters (sym first) ∙ f))
 
-some_letters : (t : Word) → of_letters t ≡ is_some (letters_of t)
-some_letters (letters w i) = refl
-some_letters (digits w i) = refl
-some_letters (amiss i) = refl
-
-some_digits : (t : Word) → of_digits t ≡ is_some (digits_of t)
-some_digits (letters w i) = refl
-some_digits (digits w i) = refl
-some_digits (amiss i) = refl
+-- whether a line that is wanted can begin with such a word; none is wanted at the end
+abbrev pub can_begin : reader.Stage → Word → Bool
+can_begin WallCount t = of_letters t
+can_begin (Walls n) t = of_digits t
+can_begin CallCount t = of_letters t
+can_begin (Calls n) t = of_letters t
+can_begin End t = false
 
 -- a line that is wanted, and cannot begin with such a word
 pub cannot_begin : (line : ℕ) (level : Meaning) (ws : List (List ℕ)) (st : reader.Stage) (t : Word) → t ≡ first_word ws 1 → SomeLeft st → (st ≡ End → ⊥) → can_begin st t ≡ false → refuses 8 (line ∷ (1 ∷ [])) ≡ read_line (stage_shown st) line level ws
-cannot_begin line level ws WallCount t first s more f = other_wall_count line level ws at_wall_count t first refl (some_letters t ∙ f)
-cannot_begin line level ws (Walls n) t first s more f = other_wall line level ws (at_walls n) t first n s refl (some_digits t ∙ f)
-cannot_begin line level ws CallCount t first s more f = other_call_count line level ws at_call_count t first refl (some_letters t ∙ f)
-cannot_begin line level ws (Calls n) t first s more f = other_call line level ws (at_calls n) t first n s refl (some_letters t ∙ f)
+cannot_begin line level ws WallCount t first s more f = other_wall_count line level ws at_wall_count t first refl f
+cannot_begin line level ws (Walls n) t first s more f = other_wall line level ws (at_walls n) t first n s refl f
+cannot_begin line level ws CallCount t first s more f = other_call_count line level ws at_call_count t first refl f
+cannot_begin line level ws (Calls n) t first s more f = other_call line level ws (at_calls n) t first n s refl f
 cannot_begin line level ws End t first s more f = absurd (more refl)

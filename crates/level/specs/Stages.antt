@@ -1,12 +1,10 @@
 -- How far a file is read.
-use Rattle.std.specs.Prelude.{ℕ, zero, suc, ◌+◌, ◌≤◌, Bool, false, cond, List, [], ◌∷◌, length, Ok, Err, Result}
-use Rattle.std.specs.Option.{is_some}
+use Rattle.std.specs.Prelude.{ℕ, zero, suc, ◌+◌, ◌≤◌, List, [], ◌∷◌, length, Ok, Err, Result}
 use Rattle.index.specs.Outcomes.{Outcome, gives, refuses}
 use Rattle.level_theory.specs.Levels.{Kind}
 use Rattle.level_theory.specs.Reading.{at_wall_count, at_walls, at_call_count, at_calls, at_end, Progress, progress}
 use Rattle.level_theory.specs.Reading.{Stage as Place}
 use Rattle.words.specs.declared.cursor.Misplaced.{Misplaced}
-use Rattle.words.specs.Tokens.{Word, place_of, letters_of, digits_of}
 use Rattle.lines.specs.declared.fault.ReadFault.{ReadFault}
 use Rattle.lines.specs.Faults.{fault_number, fault_figures}
 use Rattle.level.specs.declared.reader.Stage.{Stage}
@@ -52,14 +50,6 @@ SomeLeft (Walls n) = 1 ≤ n
 SomeLeft CallCount = Unit {0}
 SomeLeft (Calls n) = 1 ≤ n
 SomeLeft End = Unit {0}
-
--- whether a line that is wanted can begin with such a word; none is wanted at the end
-abbrev pub can_begin : Stage → Word → Bool
-can_begin WallCount t = is_some (letters_of t)
-can_begin (Walls n) t = is_some (digits_of t)
-can_begin CallCount t = is_some (letters_of t)
-can_begin (Calls n) t = is_some (letters_of t)
-can_begin End t = false
 
 pub record Room {E W : Type 0} (r : Reader E W) : Type 0 where
   pub walls : length r.level.walls.items + walls_yet r.stage ≤ 64

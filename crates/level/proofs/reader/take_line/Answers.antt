@@ -1,20 +1,21 @@
-use Rattle.std.proofs.Common.{◌≡◌, ◌-◌, false, [], ◌∷◌, ap, ◌∙◌, rules}
+use Rattle.std.proofs.Common.{◌≡◌, ◌-◌, false, [], ◌∷◌, refl, ap, ◌∙◌, rules}
 use Rattle.std.proofs.lemmas.Result.{err_from_is_err_and}
 use Rattle.index.specs.Outcomes.{refuses}
+use Rattle.words.specs.declared.token.Token.TheVariants.{Letters, Digits, Wrong}
 use Rattle.words.specs.Tokens.{shown, place_of}
 use Rattle.words.specs.Cursors.{words_left, first_word}
 use Rattle.lines.specs.Calls.{call_shown}
-use Rattle.lines.proofs.Firsts.{place_first}
+use Rattle.lines.proofs.Firsts.{of_letters, place_first}
 use Rattle.level.specs.Levels.{level_shown}
-use Rattle.level.specs.Stages.{stage_shown, can_begin}
+use Rattle.level.specs.Stages.{stage_shown}
 use Rattle.level.proofs.Rooms.{walls_shown, calls_shown, room_wall_count, room_call_count, room_wall, room_call, left_wall, left_call, shown_wall, shown_call, walls_put, calls_put, wall_put, call_put}
-use Rattle.level.proofs.Steps.{cannot_begin, wall_count_gives, wall_count_lacks, call_count_gives, call_count_lacks, wall_gives, wall_lacks, call_gives, call_lacks}
+use Rattle.level.proofs.Steps.{of_digits, can_begin, cannot_begin, wall_count_gives, wall_count_lacks, call_count_gives, call_count_lacks, wall_gives, wall_lacks, call_gives, call_lacks}
 use Rattle.level.proofs.reader.take_line.Goals as goal
 use Rattle.level.proofs.reader.take_line.Goals.{in_default-via-in-WallCount+in-Digits-1, in_default-via-in-Walls+in-Letters-1, in_default-via-in-CallCount+in-Digits-1, in_default-via-in-Calls+in-Digits-1, in_default-via-in-End-1}
 
 pub returns-in_err-count-in-WallCount-Letters : goal.returns-in_err-count-in-WallCount-Letters
 returns-in_err-count-in-WallCount-Letters g c =
-    let p = err_from_is_err_and c.from_residual-in_err-count-in-WallCount-Letters.result c.from_residual-in_err-count-in-WallCount-Letters.ensures.1 in
+    let p = err_from_is_err_and c.from_residual.result c.from_residual.ensures.1 in
     record {
       told = λ line. rw (p.1, p.2) (wall_count_lacks line (level_shown g.K.Written.kind g.K.Written.listed g.K.Written.bounds c.args.reader.now.level) (words_left c.args.words.now) c.args.words.now.place c.requires.place (stage_shown c.args.reader.now.stage) (ap stage_shown c.in-WallCount-Letters.is-0) c.in_err-count-in-WallCount-Letters.field-0.0.0 c.in_err-count-in-WallCount-Letters.ensures.taken);
       room = c.requires.room;
@@ -79,7 +80,13 @@ returns-in_ok-call-in-Calls-Letters g c =
 pub returns-in_default : goal.returns-in_default
 returns-in_default g c =
     let first = c.peek.ensures ∙ ap (first_word (words_left c.args.words.now)) c.requires.place in
-    let f : can_begin c.args.reader.now.stage (shown c.peek.result) ≡ false = elim c.in_default-1.branch [ in_default-via-in-WallCount+in-Digits-1 w ↦ search rules | in_default-via-in-Walls+in-Letters-1 w ↦ search rules | in_default-via-in-CallCount+in-Digits-1 w ↦ search rules | in_default-via-in-Calls+in-Digits-1 w ↦ search rules | in_default-via-in-End-1 w ↦ search rules ] in
+    let f : can_begin c.args.reader.now.stage (shown c.peek.result) ≡ false = elim c.in_default-1.branch [
+      | in_default-via-in-WallCount+in-Digits-1 w ↦ let n : of_letters (shown c.peek.result) ≡ false = (elim c.peek.result as (λ t. c.peek.result ≡ t → of_letters (shown t) ≡ false) [ Letters a b ↦ λ e. absurd (w.in-Digits-1.refused-1.1 (rw e refl)) | Digits a b ↦ λ e. refl | Wrong a ↦ λ e. refl ] refl) in search (rules, n)
+      | in_default-via-in-Walls+in-Letters-1 w ↦ let n : of_digits (shown c.peek.result) ≡ false = (elim c.peek.result as (λ t. c.peek.result ≡ t → of_digits (shown t) ≡ false) [ Letters a b ↦ λ e. refl | Digits a b ↦ λ e. absurd (w.in-Letters-1.refused-1.1 (rw e refl)) | Wrong a ↦ λ e. refl ] refl) in search (rules, n)
+      | in_default-via-in-CallCount+in-Digits-1 w ↦ let n : of_letters (shown c.peek.result) ≡ false = (elim c.peek.result as (λ t. c.peek.result ≡ t → of_letters (shown t) ≡ false) [ Letters a b ↦ λ e. absurd (w.in-Digits-1.refused-1.1 (rw e refl)) | Digits a b ↦ λ e. refl | Wrong a ↦ λ e. refl ] refl) in search (rules, n)
+      | in_default-via-in-Calls+in-Digits-1 w ↦ let n : of_letters (shown c.peek.result) ≡ false = (elim c.peek.result as (λ t. c.peek.result ≡ t → of_letters (shown t) ≡ false) [ Letters a b ↦ λ e. absurd (w.in-Digits-1.refused-1.1 (rw e refl)) | Digits a b ↦ λ e. refl | Wrong a ↦ λ e. refl ] refl) in search (rules, n)
+      | in_default-via-in-End-1 w ↦ search rules
+    ] in
     record {
       told = λ line. ap (λ i. refuses 8 (line ∷ (i ∷ []))) (c.place.ensures ∙ ap place_of first ∙ place_first (words_left c.args.words.now) 1)
           ∙ cannot_begin line (level_shown g.K.Written.kind g.K.Written.listed g.K.Written.bounds c.args.reader.now.level) (words_left c.args.words.now) c.args.reader.now.stage (shown c.peek.result) first c.requires.room.some c.requires.more f;
