@@ -13,7 +13,7 @@ pub struct StepChecker<'w> {
     pub walls: &'w [Wall],
 }
 
-// Whether a pose is in none of the walls.
+// Whether a pose is in none of the walls: what was seen so far is the loop's invariant.
 fn is_outside(walls: &[Wall], pose: &Arm) -> bool
     ensures { result ≡ outside walls.now pose.now }
 {

@@ -2,7 +2,6 @@
 ghost use Rattle.std.specs.Prelude.{◌≡◌, ℕ, ◌≤◌, length, ◌≢◌};
 ghost use Rattle.level_theory.specs.Words.{words_of};
 ghost use Rattle.level_theory.specs.Reading.{read_line};
-ghost use Rattle.words.specs.Tokens.{shown};
 ghost use Rattle.words.specs.Cursors.{words_left};
 ghost use Rattle.level.specs.declared.reader.Stage.TheVariants.{End};
 ghost use Rattle.level.specs.Levels.{level_shown, empty_level};
@@ -34,7 +33,7 @@ pub(crate) struct Reader<E, W> {
     pub(crate) stage: Stage,
 }
 
-// Both stages of a section differ from those of the other, so that one function would be passed them.
+// Two functions, since the sections differ in both stages: one function would have to be given both.
 fn walls_to_come(left: usize) -> Stage
     ensures { result ≡ walls_next left }
 {

@@ -7,8 +7,8 @@ use play::show;
 use std::io;
 use std::io::{Read, Write};
 
-// Reads until the buffer is full or the input ends, and returns how much came. A call that reads into memory of its own
-// could be refused it, and then the program would not end as it has to.
+// Reads until the buffer is full or the input ends, and returns how much came. A library call that makes its own buffer
+// could be refused the memory, and the program would then end otherwise than it promises.
 fn read_all(input: &mut impl Read, buffer: &mut [u8]) -> io::Result<usize>
     ensures { IfOk result (λ n. n ≤ length buffer.old) }
 {

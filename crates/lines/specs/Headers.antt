@@ -2,7 +2,7 @@
 use Rattle.std.specs.Prelude.{ℕ, ◌+◌, cond, List, [], ◌∷◌, Ok, Err, codes, Result, slice_index}
 use Rattle.index.specs.Outcomes.{Outcome, gives, refuses}
 use Rattle.level_theory.specs.Words.{same_bytes, Taken, right, wrong, take_words}
-use Rattle.level_theory.specs.Levels.{arms, cards, Level, header_outcome}
+use Rattle.level_theory.specs.Levels.{arms, cards, Level}
 use Rattle.level_theory.specs.Levels as levels
 use Rattle.level_theory.specs.Reading.{setting_wants, header_level}
 use Rattle.words.specs.declared.cursor.Misplaced.{Misplaced}

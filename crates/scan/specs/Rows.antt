@@ -1,4 +1,4 @@
--- The samples that rows hold, and rows closed up over one that is taken out.
+-- The samples that rows hold.
 use Rattle.std.specs.Prelude.{◌≡◌, ℕ, ◌<◌, List, map, length, Some, None, Option}
 use Rattle.std.specs.List.{HoldsAt}
 use Rattle.hits.specs.Samples.{Sample}

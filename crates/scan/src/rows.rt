@@ -1,5 +1,5 @@
 // The rows of a scan: its samples by rising number, from the first row on.
-ghost use Rattle.std.specs.Prelude.{◌≡◌, ◌≤◌, ◌==◌, length, take};
+ghost use Rattle.std.specs.Prelude.{◌≡◌, ◌==◌, length, take};
 ghost use Rattle.std.specs.List.{position};
 ghost use Rattle.hits.specs.Lists.{over};
 ghost use Rattle.hits.specs.Order.{inside};

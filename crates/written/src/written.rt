@@ -57,10 +57,11 @@ pub trait Written: Metric {
     fn wall_from_words(words: &mut Words) -> Result<Self::Wall, Misplaced>
         ensures { shown_part bounds result words.new ≡ part (wall_wants (form_of kind)) (words_left words.old) words.old.place };
 
-    // A wall to fill a place with until one is read: all its numbers are 0.
+    // A wall to fill a place with that has none yet: all its numbers are 0.
     fn blank_wall() -> Self::Wall
         ensures { bounds result ≡ replicate (form_of kind).wall_numbers 0 };
 
+    // The laws of the two constants.
     ghost counted: { COUNT ≡ (form_of kind).numbers };
 
     ghost limited: { LARGEST ≡ (form_of kind).largest };
