@@ -13,7 +13,7 @@ use gnat::chosen::choose;
 use gnat::gnat::Gnat;
 use gnat::settings::Settings;
 use gnat_rows::Row as TreeRow;
-use history::{Answer, Call, Unplayed, compare};
+use history::{Answer, Call, Unplayed, compare_fitting};
 use hits::Hit;
 use index::refusal::Refusal;
 use links::Links;
@@ -29,7 +29,8 @@ const HIT: Hit = Hit {
     distance: 0,
 };
 
-// What a comparison came to: the answers and the last route, and whether the other run has the same.
+// What a comparison came to: the answers and the last route, and whether the other run has the same. Both are there either
+// way, so `alike` is a plain fact beside them.
 #[derive(Drop)]
 struct Played {
     answers: Vec<Result<Answer<Card>, Refusal>>,
@@ -53,7 +54,7 @@ fn play<C: Checker<Card>>(
     let mut twins = vec![in heap; 0; PLACES]?;
     let mut answers = vec![in heap; Ok(Answer::Dropped); calls.len()]?;
     let mut again = vec![in heap; Ok(Answer::Dropped); calls.len()]?;
-    let result = compare(
+    let result = compare_fitting(
         Scan::new(rows.as_mut_slice()),
         Gnat::new(tree.as_mut_slice(), settings),
         3,
@@ -83,7 +84,7 @@ fn tell_played<C>(rt: &HostRuntime, calls: &[Call<Card, C>], played: &Played) ->
     println!(rt; "the list of numbers: {numbers:?}")
 }
 
-// Plays the calls beside a tree of these settings. Tells them if asked to.
+// Plays the calls beside a tree of these settings. Tells them if asked to: `told` goes with no value.
 fn beside<C: Checker<Card>>(
     rt: &HostRuntime,
     calls: &[Call<Card, C>],

@@ -3,6 +3,7 @@ use card::Card;
 use history::{Answer, Call};
 use index::refusal::Refusal;
 use std::io;
+use telling::tell_refusal;
 
 fn tell_call<C>(rt: &HostRuntime, call: &Call<Card, C>) -> io::Result<()> {
     match call {
@@ -32,10 +33,7 @@ fn tell_answer(rt: &HostRuntime, answer: &Result<Answer<Card>, Refusal>) -> io::
         Ok(Answer::Near(count) | Answer::Within(count)) => println!(rt; "{count} hits"),
         Ok(Answer::Island(number)) => println!(rt; "{number}"),
         Ok(Answer::Route(length, count)) => println!(rt; "{length} long, {count} samples"),
-        Err(refusal) => {
-            let number = refusal.number();
-            println!(rt; "refused by {number}: {refusal}")
-        }
+        Err(refusal) => tell_refusal(rt, *refusal),
     }
 }
 

@@ -66,7 +66,7 @@ fn numbers_of<E, C>(
 }
 
 // Writes the line that answers a call, and returns where it ends. The lists are those that the call was lent, as
-// it left them. A line that does not fit is not begun.
+// it left them: how long they are is a fact of what the caller lends. A line that does not fit is not begun.
 pub fn put_answer<E, C>(
     out: &mut Output,
     call: &Call<E, C>,

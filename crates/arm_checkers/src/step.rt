@@ -30,6 +30,7 @@ impl<'w> Checker<Arm> for StepChecker<'w> {
 
     ghost symmetric = { λ c. step_symmetric c.walls.now };
 
+    // A loop over the poses, whose invariant is what was seen so far.
     fn check(&self, a: &Arm, b: &Arm) -> bool {
         let n = steps(a, b);
         for t in 0..n + 1 {

@@ -48,6 +48,7 @@ impl<'w> Checker<Arm> for BoxChecker<'w> {
 
     ghost symmetric = { λ c. box_symmetric c.walls.now };
 
+    // A loop over the lent walls, whose invariant is what was seen so far.
     fn check(&self, a: &Arm, b: &Arm) -> bool {
         let swept = sweep(a, b);
         for wall in self.walls {

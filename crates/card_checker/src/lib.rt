@@ -8,7 +8,7 @@ ghost use Rattle.card_checker.specs.Lawful.{mix_symmetric};
 use card::Card;
 use checker::Checker;
 
-// What the wall asks for in each slot; 255 stands for every value.
+// What the wall asks for in each slot. 255 stands for every value: a wall is written so, as eight bytes.
 #[derive(Clone, Copy, Debug, Default, PartialEq)]
 pub struct CardWall {
     pub slots: [u8; 8],
@@ -44,6 +44,7 @@ impl<'w> Checker<Card> for MixChecker<'w> {
 
     ghost symmetric = { λ c. mix_symmetric c.walls.now };
 
+    // A loop over the lent walls, whose invariant is what was seen so far.
     fn check(&self, a: &Card, b: &Card) -> bool {
         for wall in self.walls {
             if !wall.is_clear(a, b) {

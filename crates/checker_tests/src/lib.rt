@@ -16,7 +16,7 @@ mod tests {
     use walls::Wall;
 
     // The second pose of a case: every fourth time the first one again, and every fourth time one
-    // that turns a little.
+    // that turns a little. The case's number picks it, by its remainder.
     fn partner(cases: &mut Cases, case: u32, first: Arm) -> Arm {
         let other = cases.pose();
         match case % 4 {
@@ -35,9 +35,16 @@ mod tests {
         }
     }
 
-    // Step and Box say what the rules say, both ways round. The answer is 2 where both pass, 1 where
-    // Step alone does, and 0 where neither does.
-    fn agrees(rt: &impl Abort, walls: &[Wall], e: &Arm, f: &Arm) -> usize {
+    // Which of Step and Box pass a pair.
+    #[derive(Clone, Copy)]
+    enum Passing {
+        Neither,
+        StepAlone,
+        Both,
+    }
+
+    // Step and Box say what the rules say, both ways round.
+    fn agrees(rt: &impl Abort, walls: &[Wall], e: &Arm, f: &Arm) -> Passing {
         let step = StepChecker { walls };
         let swept = BoxChecker { walls };
         let stepped = step.check(e, f);
@@ -48,33 +55,37 @@ mod tests {
         assert!(rt; swept.check(f, e) == boxed);
         assert!(rt; both(walls, e, f) == (stepped, boxed));
         if boxed {
-            2
+            Passing::Both
         } else if stepped {
-            1
+            Passing::StepAlone
         } else {
-            0
+            Passing::Neither
         }
     }
 
     #[test]
     fn arms_pass_as_the_rules_say(rt: HostRuntime) {
         let mut cases = Cases::new(7);
-        let mut seen = [0u32; 3];
+        let mut by_neither = 0u32;
+        let mut by_step_alone = 0u32;
+        let mut by_both = 0u32;
         for case in 0..400 {
             let e = cases.pose();
             let f = partner(&mut cases, case, e);
-            let kind = agrees(&rt, &[cases.wall(), cases.wall()], &e, &f);
-            if kind < 3 {
-                seen[kind] = seen[kind].wrapping_add(1);
+            match agrees(&rt, &[cases.wall(), cases.wall()], &e, &f) {
+                Passing::Neither => by_neither = by_neither.wrapping_add(1),
+                Passing::StepAlone => by_step_alone = by_step_alone.wrapping_add(1),
+                Passing::Both => by_both = by_both.wrapping_add(1),
             }
         }
-        assert!(rt; seen[0] > 100 && seen[1] > 10 && seen[2] > 100);
+        assert!(rt; by_neither > 100 && by_step_alone > 10 && by_both > 100);
     }
 
     #[test]
     fn cards_pass_as_the_rules_say(rt: HostRuntime) {
         let mut cases = Cases::new(11);
-        let mut seen = [0u32; 2];
+        let mut passing = 0u32;
+        let mut stopped = 0u32;
         for case in 0..400 {
             let e = cases.card();
             let other = cases.card();
@@ -84,9 +95,12 @@ mod tests {
             let passed = mix.check(&e, &f);
             assert!(rt; passed == plain::mix_passes(&walls, &e, &f));
             assert!(rt; mix.check(&f, &e) == passed);
-            let kind = if passed { 0 } else { 1 };
-            seen[kind] = seen[kind].wrapping_add(1);
+            if passed {
+                passing = passing.wrapping_add(1);
+            } else {
+                stopped = stopped.wrapping_add(1);
+            }
         }
-        assert!(rt; seen[0] > 20 && seen[1] > 20);
+        assert!(rt; passing > 20 && stopped > 20);
     }
 }

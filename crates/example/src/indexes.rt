@@ -1,5 +1,5 @@
 // Poses and cards in indexes: filed, dropped, found and refused.
-use arm::Arm;
+use crate::poses::pose_of;
 use card::Card;
 use hits::Hit;
 use index::index::Index;
@@ -7,12 +7,6 @@ use scan::rows::Row;
 use scan::scan::Scan;
 use std::io;
 use telling::{tell_add, tell_drop, tell_element, tell_near, tell_tally, tell_within};
-
-fn pose(first: u16, second: u16) -> Arm {
-    Arm {
-        angles: [first, second, 0, 0, 0, 0],
-    }
-}
 
 fn tools(left: u8, right: u8) -> Card {
     Card {
@@ -22,26 +16,26 @@ fn tools(left: u8, right: u8) -> Card {
 
 pub fn arms(rt: &HostRuntime) -> io::Result<()> {
     println!(rt; "Arm poses, in a scan over five rows")?;
-    let mut rows = [Row::vacant(pose(0, 0)); 5];
+    let mut rows = [Row::vacant(pose_of(0, 0)); 5];
     let mut list = [Hit {
         number: 0,
         distance: 0,
     }; 4];
     let mut index = Scan::new(&mut rows);
     for first in [0, 8, 4088, 2048, 16] {
-        tell_add(rt, &mut index, pose(first, 0))?;
+        tell_add(rt, &mut index, pose_of(first, 0))?;
     }
-    tell_add(rt, &mut index, pose(24, 0))?;
+    tell_add(rt, &mut index, pose_of(24, 0))?;
     tell_drop(rt, &mut index, 2)?;
     tell_drop(rt, &mut index, 2)?;
-    tell_add(rt, &mut index, pose(24, 0))?;
+    tell_add(rt, &mut index, pose_of(24, 0))?;
     tell_tally(rt, &index)?;
     tell_element(rt, &index, 6)?;
     tell_element(rt, &index, 2)?;
-    tell_near(rt, &index, &pose(4, 0), 3, &mut list)?;
-    tell_near(rt, &index, &pose(4, 0), 0, &mut list)?;
-    tell_near(rt, &index, &pose(4, 0), 5, &mut list)?;
-    tell_within(rt, &index, &pose(4, 0), 384, &mut list)
+    tell_near(rt, &index, &pose_of(4, 0), 3, &mut list)?;
+    tell_near(rt, &index, &pose_of(4, 0), 0, &mut list)?;
+    tell_near(rt, &index, &pose_of(4, 0), 5, &mut list)?;
+    tell_within(rt, &index, &pose_of(4, 0), 384, &mut list)
 }
 
 pub fn cards(rt: &HostRuntime) -> io::Result<()> {

@@ -4,6 +4,7 @@
 mod indexes;
 mod kinds;
 mod moves;
+mod poses;
 
 use indexes::{arms, cards, numbers};
 use kinds::distances;

@@ -1,4 +1,5 @@
 // An arm moves past walls, and cards change past a wall: which pairs pass by which checker.
+use crate::poses::pose_of;
 use arm::Arm;
 use arm_checkers::both;
 use card::Card;
@@ -10,13 +11,6 @@ use walls::{Arc, Wall};
 
 fn arc(start: u16, extent: u16) -> Arc {
     Arc { start, extent }
-}
-
-// A pose that turns the first two joints alone.
-fn pose_of(first: u16, second: u16) -> Arm {
-    Arm {
-        angles: [first, second, 0, 0, 0, 0],
-    }
 }
 
 // A wall that asks something of the first two joints alone.

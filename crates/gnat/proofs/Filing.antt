@@ -10,12 +10,12 @@ use Rattle.gnat_rows.specs.declared.Row.{Row}
 use Rattle.gnat_rows.specs.Trees.{samples_at, tree_of}
 use Rattle.gnat_order.specs.Order.{places}
 use Rattle.gnat_filing.specs.Filed.{Ready, LeavesTree, FilesIn}
-use Rattle.gnat.specs.declared.gnat.Gnat.{Gnat}
-use Rattle.gnat.specs.Gnats.{capacity_of, gnat_meaning, gnat_tree, GnatSound}
-use Rattle.gnat.proofs.Adding.{shallow, free_row, free_apart, free_within, prepared, prepared_length, prepared_shows, prepared_row, add_means, add_tree, add_sound}
+use Rattle.gnat.specs.States.{State, capacity_of, meaning_of, tree_in}
+use Rattle.gnat.proofs.Laid.{LaidOut, shallow}
+use Rattle.gnat.proofs.Adding.{free_row, free_apart, free_within, prepared, prepared_length, prepared_shows, prepared_row, add_means, add_tree, add_sound}
 use Rattle.gnat.proofs.Rebuilding.{depth_is_height}
 
-module _ {E : Type 0} (dist : E → E → ℕ) (g : Gnat E) (o : GnatSound dist g) (roomy : g.standing + g.marked < capacity_of g) (e : E) where
+module _ {E : Type 0} (dist : E → E → ℕ) (g : State E) (o : LaidOut dist g) (roomy : g.standing + g.marked < capacity_of g) (e : E) where
   abbrev number : ℕ
   number = g.last + 1
 
@@ -33,7 +33,7 @@ module _ {E : Type 0} (dist : E → E → ℕ) (g : Gnat E) (o : GnatSound dist 
     shows = prepared_shows dist g o roomy number e;
     apart = free_apart dist g o roomy;
     within = omega (arith, free_within dist g o roomy, prepared_length dist g o roomy number e);
-    deep = omega (arith, depth_is_height o.tree, shallow dist g.rows.now g.root o.tree o.lies g.settings.degree g.settings.bucket _ g.settings.two o.files o.shows (omega (arith, length_shuffle _ _ o.lists, length-take (g.standing + g.marked) (places g.rows.now), o.in_use)));
+    deep = omega (arith, depth_is_height o.tree, shallow dist g.rows g.root o.tree o.lies g.settings.degree g.settings.bucket _ g.settings.two o.files o.shows (omega (arith, length_shuffle _ _ o.lists, length-take (g.standing + g.marked) (places g.rows), o.in_use)));
     branching = o.files.branching;
     leaves = o.files.leaves;
   }
@@ -55,11 +55,11 @@ module _ {E : Type 0} (dist : E → E → ℕ) (g : Gnat E) (o : GnatSound dist 
       long : length later ≡ length with_it
       long = as_long ∙ ap length is_new
 
-      pub new_means : record { capacity = min (length later) 1024; last = number; standing = samples_at later (take (g.standing + 1) (places later)) } ≡ added (gnat_meaning g) e
+      pub new_means : record { capacity = min (length later) 1024; last = number; standing = samples_at later (take (g.standing + 1) (places later)) } ≡ added (meaning_of g) e
       new_means = let l = left in add_means dist g o roomy number e later root l.lies l.shows l.same_rows l.only long refl
 
-      pub new_tree : tree_of 1025 later root ≡ grown dist g.settings.degree g.settings.bucket sample (gnat_tree g)
+      pub new_tree : tree_of 1025 later root ≡ grown dist g.settings.degree g.settings.bucket sample (tree_in g)
       new_tree = let l = left in add_tree dist g o roomy number e later root l.lies l.shows l.same_rows l.only long
 
-      pub new_sound : g.last < 65535 → (h : Gnat E) → h.rows.now ≡ later → h.root ≡ root → h.settings ≡ g.settings → h.standing ≡ g.standing + 1 → h.marked ≡ g.marked → h.last ≡ g.last + 1 → GnatSound dist h
+      pub new_sound : g.last < 65535 → (h : State E) → h.rows ≡ later → h.root ≡ root → h.settings ≡ g.settings → h.standing ≡ g.standing + 1 → h.marked ≡ g.marked → h.last ≡ g.last + 1 → LaidOut dist h
       new_sound numbers h rs rt se st mk ls = let l = left in add_sound dist g o roomy number e later root l.lies l.shows l.same_rows l.only long h rs rt se st mk ls refl (omega arith)

@@ -1,3 +1,4 @@
+pub mod Laid
 pub mod States
 pub mod Adding
 pub mod Dropping

@@ -9,36 +9,36 @@ use Rattle.gnat_rows.specs.Lying.{Distinct}
 use Rattle.gnat_rows.proofs.Apart.{distinct_left, distinct_shuffle}
 use Rattle.gnat_order.specs.Order.{places, swapped, behind}
 use Rattle.gnat_order.proofs.Moves.{behind_firsts, swapped_firsts, length_behind, length_swapped, take_behind, get_or_behind, take_before, get_or_swapped}
-use Rattle.gnat.specs.declared.gnat.Gnat.{Gnat}
-use Rattle.gnat.specs.Gnats.{capacity_of, listed, GnatSound}
+use Rattle.gnat.specs.States.{State, capacity_of, listed}
+use Rattle.gnat.proofs.Laid.{LaidOut}
 use Rattle.gnat.proofs.Dropping.{cancelled}
 
-module _ {E : Type 0} (dist : E → E → ℕ) (g : Gnat E) (o : GnatSound dist g) (i : ℕ) (inside : i < g.standing) (lies : List ℕ) where
-  long : length (places g.rows.now) ≡ length g.rows.now
-  long = length-map g.rows.now (λ (x : Row E). x.place)
+module _ {E : Type 0} (dist : E → E → ℕ) (g : State E) (o : LaidOut dist g) (i : ℕ) (inside : i < g.standing) (lies : List ℕ) where
+  long : length (places g.rows) ≡ length g.rows
+  long = length-map g.rows (λ (x : Row E). x.place)
 
-  fit : g.standing ≤ length (places g.rows.now)
+  fit : g.standing ≤ length (places g.rows)
   fit = omega (arith, long, o.in_use)
 
   -- the row that is dropped
   abbrev pub dropped_row : ℕ
-  dropped_row = get_or (places g.rows.now) i 0
+  dropped_row = get_or (places g.rows) i 0
 
   -- the order with it behind those that stand
   abbrev pub moved : List ℕ
-  moved = behind i g.standing (places g.rows.now)
+  moved = behind i g.standing (places g.rows)
 
-  pub moved_length : length moved ≡ length g.rows.now
-  moved_length = length_behind i g.standing (places g.rows.now) inside fit ∙ long
+  pub moved_length : length moved ≡ length g.rows
+  moved_length = length_behind i g.standing (places g.rows) inside fit ∙ long
 
   pub moved_first : take (g.standing - 1) moved ≡ take i (listed g) ++ drop (suc i) (listed g)
-  moved_first = take_behind i g.standing (places g.rows.now) inside fit
+  moved_first = take_behind i g.standing (places g.rows) inside fit
 
-  pub moved_same : Shuffle ℕ (take (capacity_of g) (places g.rows.now)) (take (capacity_of g) moved)
-  moved_same = behind_firsts i g.standing (capacity_of g) (places g.rows.now) inside (omega (arith, o.in_use)) fit
+  pub moved_same : Shuffle ℕ (take (capacity_of g) (places g.rows)) (take (capacity_of g) moved)
+  moved_same = behind_firsts i g.standing (capacity_of g) (places g.rows) inside (omega (arith, o.in_use)) fit
 
   moved_in_use : Shuffle ℕ o.lies (take (g.standing + g.marked) moved)
-  moved_in_use = in_turn _ _ _ o.lists (behind_firsts i g.standing (g.standing + g.marked) (places g.rows.now) inside (omega arith) fit)
+  moved_in_use = in_turn _ _ _ o.lists (behind_firsts i g.standing (g.standing + g.marked) (places g.rows) inside (omega arith) fit)
 
   -- a pivot: it is the first of the marked ones
   pub marked_fits : (g.standing - 1) + (g.marked + 1) ≤ capacity_of g
@@ -56,13 +56,13 @@ module _ {E : Type 0} (dist : E → E → ℕ) (g : Gnat E) (o : GnatSound dist 
   last_in_use : (g.standing - 1) + g.marked < length moved
   last_in_use = omega (arith, moved_length, o.in_use)
 
-  pub freed_length : length freed ≡ length g.rows.now
+  pub freed_length : length freed ≡ length g.rows
   freed_length = length_swapped (g.standing - 1) ((g.standing - 1) + g.marked) moved ∙ moved_length
 
   pub freed_first : take (g.standing - 1) freed ≡ take i (listed g) ++ drop (suc i) (listed g)
   freed_first = take_before (g.standing - 1) g.marked moved ∙ moved_first
 
-  pub freed_same : Shuffle ℕ (take (capacity_of g) (places g.rows.now)) (take (capacity_of g) freed)
+  pub freed_same : Shuffle ℕ (take (capacity_of g) (places g.rows)) (take (capacity_of g) freed)
   freed_same = in_turn _ _ _ moved_same (swapped_firsts (g.standing - 1) g.marked (capacity_of g) moved (omega (arith, o.in_use)) last_in_use)
 
   pub freed_fits : (g.standing - 1) + g.marked ≤ capacity_of g
@@ -71,7 +71,7 @@ module _ {E : Type 0} (dist : E → E → ℕ) (g : Gnat E) (o : GnatSound dist 
   freed_in_use : Shuffle ℕ o.lies (take ((g.standing - 1) + g.marked) freed ++ (dropped_row ∷ []))
   freed_in_use =
       let count : g.standing + g.marked ≡ suc ((g.standing - 1) + g.marked) = omega arith in
-      let last : get_or freed ((g.standing - 1) + g.marked) 0 ≡ dropped_row = get_or_swapped (g.standing - 1) g.marked moved last_in_use ∙ get_or_behind i g.standing (places g.rows.now) inside fit in
+      let last : get_or freed ((g.standing - 1) + g.marked) 0 ≡ dropped_row = get_or_swapped (g.standing - 1) g.marked moved last_in_use ∙ get_or_behind i g.standing (places g.rows) inside fit in
       let cut : take (suc ((g.standing - 1) + g.marked)) freed ≡ take ((g.standing - 1) + g.marked) freed ++ (dropped_row ∷ []) =
       take-suc freed ((g.standing - 1) + g.marked) 0 (omega (arith, freed_length, moved_length, last_in_use)) ∙ ap (λ x. take ((g.standing - 1) + g.marked) freed ++ (x ∷ [])) last in
       subst (Shuffle ℕ o.lies) cut
@@ -81,7 +81,7 @@ module _ {E : Type 0} (dist : E → E → ℕ) (g : Gnat E) (o : GnatSound dist 
   pub in_tree_distinct : Distinct o.lies
   in_tree_distinct =
       let n = g.standing + g.marked in
-      let ps = places g.rows.now in
+      let ps = places g.rows in
       let cut : take n (take (capacity_of g) ps) ≡ take n ps = take-take n (capacity_of g) ps o.in_use in
       let front : Distinct (take n ps) = subst Distinct cut (distinct_left (take n (take (capacity_of g) ps)) (drop n (take (capacity_of g) ps)) (subst Distinct (sym (take-append-drop n (take (capacity_of g) ps))) o.apart)) in
       distinct_shuffle _ _ (shuffle_back _ _ o.lists) front

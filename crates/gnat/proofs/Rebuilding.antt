@@ -31,11 +31,10 @@ use Rattle.gnat_order.proofs.Numbers.{there}
 use Rattle.gnat_order.proofs.Framing.{samples_only, places_only, samples_append}
 use Rattle.gnat_filing.specs.Filed.{Ready, FilesIn, depth, deepest}
 use Rattle.gnat_filing.specs.declared.settings.Settings.{Settings}
-use Rattle.gnat.specs.declared.gnat.Gnat.{Gnat}
-use Rattle.gnat.specs.Gnats.{capacity_of, listed, standing_in, gnat_meaning, GnatSound}
+use Rattle.gnat.specs.States.{State, capacity_of, listed, standing_in, meaning_of}
+use Rattle.gnat.proofs.Laid.{LaidOut, shallow}
 use Rattle.gnat.specs.Refiling.{Refiled}
 use Rattle.gnat.specs.Lawful.{in_rows, listed_within}
-use Rattle.gnat.proofs.Adding.{shallow}
 
 -- filing counts the branches as the rows do
 mutual
@@ -151,18 +150,18 @@ rising_at_most most low high [] l r = tt
 rising_at_most most low high (x ∷ xs) l r = (omega (arith, r.1), rising_at_most most x.number high xs l r.2)
 
 -- all that stand are filed anew: the marked rows are free
-module _ {E : Type 0} (dist : E → E → ℕ) (g : Gnat E) (o : GnatSound dist g) (new : List (Row E)) (root : Node) (f : Refiled dist g.settings.degree g.settings.bucket g.rows.now (listed g) g.standing new root) where
-  long : length (places g.rows.now) ≡ length g.rows.now
-  long = length-map g.rows.now (λ (r : Row E). r.place)
+module _ {E : Type 0} (dist : E → E → ℕ) (g : State E) (o : LaidOut dist g) (new : List (Row E)) (root : Node) (f : Refiled dist g.settings.degree g.settings.bucket g.rows (listed g) g.standing new root) where
+  long : length (places g.rows) ≡ length g.rows
+  long = length-map g.rows (λ (r : Row E). r.place)
 
   whole : take g.standing (listed g) ≡ listed g
-  whole = take_all g.standing (listed g) (omega (arith, length-take-le g.standing (places g.rows.now) (omega (arith, in_rows dist g o, long))))
+  whole = take_all g.standing (listed g) (omega (arith, length-take-le g.standing (places g.rows) (omega (arith, in_rows g o.in_use o.within, long))))
 
-  new_places : places new ≡ places g.rows.now
-  new_places = places_only (listed g) g.rows.now new f.only f.as_long
+  new_places : places new ≡ places g.rows
+  new_places = places_only (listed g) g.rows new f.only f.as_long
 
   new_samples : samples_at new (listed g) ≡ standing_in g
-  new_samples = samples_only (listed g) g.rows.now new f.only f.as_long (listed g) (listed_within dist g o)
+  new_samples = samples_only (listed g) g.rows new f.only f.as_long (listed g) (listed_within g o.in_use o.within)
 
   new_standing : samples_at new (take g.standing (places new)) ≡ standing_in g
   new_standing = ap (λ ps. samples_at new (take g.standing ps)) new_places ∙ new_samples
@@ -174,7 +173,7 @@ module _ {E : Type 0} (dist : E → E → ℕ) (g : Gnat E) (o : GnatSound dist 
   new_tree = rebuilt dist g.settings.degree g.settings.bucket (standing_in g)
 
   new_shows : Shows new root new_tree f.lies
-  new_shows = subst (λ is. Shows new root (rebuilt dist g.settings.degree g.settings.bucket (samples_at g.rows.now is)) f.lies) whole f.shows
+  new_shows = subst (λ is. Shows new root (rebuilt dist g.settings.degree g.settings.bucket (samples_at g.rows is)) f.lies) whole f.shows
 
   new_files : Files dist g.settings.degree g.settings.bucket (standing_in g) new_tree
   new_files = ((keeps_tree dist g.settings.degree g.settings.bucket (omega (arith, g.settings.two)) g.settings.room).by_rebuilding (standing_in g)).files
@@ -183,49 +182,49 @@ module _ {E : Type 0} (dist : E → E → ℕ) (g : Gnat E) (o : GnatSound dist 
   new_rows = ((keeps_tree dist g.settings.degree g.settings.bucket (omega (arith, g.settings.two)) g.settings.room).by_rebuilding (standing_in g)).rows
 
   few : length f.lies ≤ 1024
-  few = omega (arith, length_shuffle _ _ f.same_rows, ap length whole, length-take g.standing (places g.rows.now), o.in_use)
+  few = omega (arith, length_shuffle _ _ f.same_rows, ap length whole, length-take g.standing (places g.rows), o.in_use)
 
-  pub rebuild_means : record { capacity = min (length new) 1024; last = g.last; standing = samples_at new (take g.standing (places new)) } ≡ gnat_meaning g
+  pub rebuild_means : record { capacity = min (length new) 1024; last = g.last; standing = samples_at new (take g.standing (places new)) } ≡ meaning_of g
   rebuild_means = λ i. record { capacity = same_capacity i; last = g.last; standing = new_standing i }
 
   pub rebuild_tree : tree_of 1025 new root ≡ rebuilt dist g.settings.degree g.settings.bucket (standing_in g)
   rebuild_tree = shown_tree new new_tree 1025 root f.lies new_shows (shallow dist new root new_tree f.lies g.settings.degree g.settings.bucket _ g.settings.two new_files new_shows few)
 
-  pub rebuild_sound : (h : Gnat E) → h.rows.now ≡ new → h.root ≡ root → h.settings ≡ g.settings → h.standing ≡ g.standing → h.marked ≡ 0 → h.last ≡ g.last → GnatSound dist h
+  pub rebuild_sound : (h : State E) → h.rows ≡ new → h.root ≡ root → h.settings ≡ g.settings → h.standing ≡ g.standing → h.marked ≡ 0 → h.last ≡ g.last → LaidOut dist h
   rebuild_sound h rs rt se st mk ls =
       let cap : capacity_of h ≡ capacity_of g = ap (λ z. min (length z) 1024) rs ∙ same_capacity in
-      let listing : take (capacity_of h) (places h.rows.now) ≡ take (capacity_of g) (places g.rows.now) = ap (λ k. take k (places h.rows.now)) cap ∙ ap (take (capacity_of g)) (ap places rs ∙ new_places) in
-      let stands : standing_in h ≡ standing_in g = ap (λ k. samples_at h.rows.now (take k (places h.rows.now))) st ∙ (ap (λ z. samples_at z (take g.standing (places z))) rs ∙ new_standing) in
+      let listing : take (capacity_of h) (places h.rows) ≡ take (capacity_of g) (places g.rows) = ap (λ k. take k (places h.rows)) cap ∙ ap (take (capacity_of g)) (ap places rs ∙ new_places) in
+      let stands : standing_in h ≡ standing_in g = ap (λ k. samples_at h.rows (take k (places h.rows))) st ∙ (ap (λ z. samples_at z (take g.standing (places z))) rs ∙ new_standing) in
       let used : h.standing + h.marked ≡ g.standing = omega arith in
       record {
         last_bound = omega (arith, o.last_bound);
         in_use = omega (arith, o.in_use);
-        within = subst (λ k. Within (take (capacity_of h) (places h.rows.now)) k) (sym cap) (subst (λ z. Within z (capacity_of g)) (sym listing) o.within);
+        within = subst (λ k. Within (take (capacity_of h) (places h.rows)) k) (sym cap) (subst (λ z. Within z (capacity_of g)) (sym listing) o.within);
         apart = subst Distinct (sym listing) o.apart;
         rising = subst (λ k. Rising 0 k (standing_in h)) (sym ls) (subst (Rising 0 g.last) (sym stands) o.rising);
         tree = new_tree;
         lies = f.lies;
-        shows = subst (λ n. Shows h.rows.now n new_tree f.lies) (sym rt) (subst (λ z. Shows z root new_tree f.lies) (sym rs) new_shows);
-        lists = subst (λ k. Shuffle ℕ f.lies (take k (places h.rows.now))) (sym used) (subst (λ ps. Shuffle ℕ f.lies (take g.standing ps)) (sym (ap places rs ∙ new_places)) (subst (Shuffle ℕ f.lies) whole f.same_rows));
+        shows = subst (λ n. Shows h.rows n new_tree f.lies) (sym rt) (subst (λ z. Shows z root new_tree f.lies) (sym rs) new_shows);
+        lists = subst (λ k. Shuffle ℕ f.lies (take k (places h.rows))) (sym used) (subst (λ ps. Shuffle ℕ f.lies (take g.standing ps)) (sym (ap places rs ∙ new_places)) (subst (Shuffle ℕ f.lies) whole f.same_rows));
         files = subst (λ (d : Settings). Files dist d.degree d.bucket (standing_in h) new_tree) (sym se) (subst (λ xs. Files dist g.settings.degree g.settings.bucket xs new_tree) (sym stands) new_files);
         numbers = apart_shuffle _ _ (shuffle_back _ _ new_rows) (rising_apart 0 g.last (standing_in g) o.rising);
         given = all_shuffle (λ x. x.number ≤ h.last) _ _ (shuffle_back _ _ new_rows) (rising_at_most h.last 0 g.last (standing_in g) (omega arith) o.rising);
       }
 
 -- a sound GNAT's standing samples may be filed anew
-pub record MayRefile {E : Type 0} (g : Gnat E) : Type 0 where
-  pub fits : g.standing ≤ length g.rows.now
+pub record MayRefile {E : Type 0} (g : State E) : Type 0 where
+  pub fits : g.standing ≤ length g.rows
   pub few : g.standing ≤ 1024
-  pub within : Within (listed g) (length g.rows.now)
+  pub within : Within (listed g) (length g.rows)
   pub apart : Distinct (listed g)
 
-pub may_refile : {E : Type 0} (dist : E → E → ℕ) (g : Gnat E) (o : GnatSound dist g) → MayRefile g
+pub may_refile : {E : Type 0} (dist : E → E → ℕ) (g : State E) (o : LaidOut dist g) → MayRefile g
 may_refile dist g o =
-    let ps = take (capacity_of g) (places g.rows.now) in
-    let cut : take g.standing ps ≡ listed g = take-take g.standing (capacity_of g) (places g.rows.now) (omega (arith, o.in_use)) in
+    let ps = take (capacity_of g) (places g.rows) in
+    let cut : take g.standing ps ≡ listed g = take-take g.standing (capacity_of g) (places g.rows) (omega (arith, o.in_use)) in
     record {
-      fits = in_rows dist g o;
+      fits = in_rows g o.in_use o.within;
       few = omega (arith, o.in_use);
-      within = listed_within dist g o;
+      within = listed_within g o.in_use o.within;
       apart = subst Distinct cut (distinct_left (take g.standing ps) (drop g.standing ps) (subst Distinct (sym (take-append-drop g.standing ps)) o.apart));
     }

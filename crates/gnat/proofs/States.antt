@@ -14,8 +14,8 @@ use Rattle.gnat_rows.specs.Lying.{Distinct}
 use Rattle.gnat_rows.specs.Trees.{samples_at}
 use Rattle.gnat_order.specs.Order.{Within, places, placed, counted}
 use Rattle.gnat_order.proofs.Places.{places_placed, length_placed, length_counted, counted_within, counted_distinct}
-use Rattle.gnat.specs.declared.gnat.Gnat.{Gnat}
-use Rattle.gnat.specs.Gnats.{capacity_of, standing_in, GnatSound}
+use Rattle.gnat.specs.States.{State, capacity_of, standing_in}
+use Rattle.gnat.proofs.Laid.{LaidOut}
 
 -- a new index: its rows are listed in their own order
 module _ {E : Type 0} (dist : E → E → ℕ) (rows new : List (Row E)) (count : ℕ) (is_count : count ≡ min (length rows) 1024) (lists : new ≡ placed (counted count (places rows)) rows) where
@@ -34,22 +34,22 @@ module _ {E : Type 0} (dist : E → E → ℕ) (rows new : List (Row E)) (count 
   pub new_means : record { capacity = min (length new) 1024; last = 0; standing = [] } ≡ fresh {E = E} (min (length rows) 1024)
   new_means = ap (λ n. fresh (min n 1024)) as_long
 
-  pub new_sound : (g : Gnat E) → g.rows.now ≡ new → g.root ≡ empty → g.standing ≡ 0 → g.marked ≡ 0 → g.last ≡ 0 → GnatSound dist g
+  pub new_sound : (g : State E) → g.rows ≡ new → g.root ≡ empty → g.standing ≡ 0 → g.marked ≡ 0 → g.last ≡ 0 → LaidOut dist g
   new_sound g rs root standing marked last =
       let cap : capacity_of g ≡ count = ap (λ z. min (length z) 1024) rs ∙ same_count in
-      let listing : take (capacity_of g) (places g.rows.now) ≡ take count (counted count (places rows)) = ap (λ k. take k (places g.rows.now)) cap ∙ ap (take count) (ap places rs ∙ own_places) in
+      let listing : take (capacity_of g) (places g.rows) ≡ take count (counted count (places rows)) = ap (λ k. take k (places g.rows)) cap ∙ ap (take count) (ap places rs ∙ own_places) in
       let none : g.standing + g.marked ≡ 0 = omega arith in
-      let nobody : standing_in g ≡ [] = ap (λ k. samples_at g.rows.now (take k (places g.rows.now))) standing in
+      let nobody : standing_in g ≡ [] = ap (λ k. samples_at g.rows (take k (places g.rows))) standing in
       record {
         last_bound = omega arith;
         in_use = omega arith;
-        within = subst (λ k. Within (take (capacity_of g) (places g.rows.now)) k) (sym cap) (subst (λ z. Within z count) (sym listing) (subst (Within (take count (counted count (places rows)))) (omega arith) (counted_within 0 count (places rows) enough)));
+        within = subst (λ k. Within (take (capacity_of g) (places g.rows)) k) (sym cap) (subst (λ z. Within z count) (sym listing) (subst (Within (take count (counted count (places rows)))) (omega arith) (counted_within 0 count (places rows) enough)));
         apart = subst Distinct (sym listing) (counted_distinct 0 count (places rows));
         rising = subst (Rising 0 g.last) (sym nobody) tt;
         tree = leaf [];
         lies = [];
         shows = (record { count = 0; rows = replicate 32 0 }, root, refl, omega arith, refl, tt);
-        lists = subst (λ k. Shuffle ℕ [] (take k (places g.rows.now))) (sym none) nothing;
+        lists = subst (λ k. Shuffle ℕ [] (take k (places g.rows))) (sym none) nothing;
         files = subst (λ xs. Files dist g.settings.degree g.settings.bucket xs (leaf [])) (sym nobody) (keeps_tree dist g.settings.degree g.settings.bucket (omega (arith, g.settings.two)) g.settings.room).at_first;
         numbers = tt;
         given = tt;

@@ -16,12 +16,11 @@ use Rattle.gnat_rows.specs.Trees.{sample_on, samples_at, tree_of}
 use Rattle.gnat_order.specs.Order.{places, placed, at_place}
 use Rattle.gnat_order.proofs.Framing.{places_only}
 use Rattle.gnat_filing.specs.Dropping.{Droppable, Drops}
-use Rattle.gnat.specs.declared.gnat.Gnat.{Gnat}
-use Rattle.gnat.specs.Gnats.{capacity_of, listed, standing_in, gnat_meaning, GnatSound}
+use Rattle.gnat.specs.States.{State, capacity_of, listed, standing_in, meaning_of}
+use Rattle.gnat.proofs.Laid.{LaidOut, shallow}
 use Rattle.gnat.specs.Changes.{TakenOut}
 use Rattle.gnat.specs.Unlisting.{unlisted, marked_then}
 use Rattle.gnat.specs.Lawful.{in_rows, listed_within}
-use Rattle.gnat.proofs.Adding.{shallow}
 use Rattle.gnat.proofs.Rebuilding.{depth_is_height}
 use Rattle.gnat.proofs.Dropping.{drop_means, drop_tree, drop_sound}
 use Rattle.gnat.proofs.Orders.{in_tree_distinct, moved, moved_length, moved_first, moved_same, marked_fits, marked_lists, freed, freed_length, freed_first, freed_same, freed_fits, freed_lists}
@@ -53,9 +52,9 @@ among_get_or [] i l = absurd (omega arith)
 among_get_or (k ∷ is) zero l = inl refl
 among_get_or (k ∷ is) (suc i) l = inr (among_get_or is i (omega arith))
 
-module _ {E : Type 0} (dist : E → E → ℕ) (g : Gnat E) (o : GnatSound dist g) (at : ℕ) (inside : at < g.standing) where
+module _ {E : Type 0} (dist : E → E → ℕ) (g : State E) (o : LaidOut dist g) (at : ℕ) (inside : at < g.standing) where
   abbrev old : List (Row E)
-  old = g.rows.now
+  old = g.rows
 
   abbrev row : ℕ
   row = get_or (places old) at 0
@@ -65,7 +64,7 @@ module _ {E : Type 0} (dist : E → E → ℕ) (g : Gnat E) (o : GnatSound dist 
 
   pub row_within : row < length old
   row_within =
-      let front : get_or (listed g) at 0 < length old = All-get_or (λ i. i < length old) (listed g) at 0 (omega (arith, length-take-le g.standing (places old) (omega (arith, long, in_rows dist g o)))) (listed_within dist g o) in
+      let front : get_or (listed g) at 0 < length old = All-get_or (λ i. i < length old) (listed g) at 0 (omega (arith, length-take-le g.standing (places old) (omega (arith, long, in_rows g o.in_use o.within)))) (listed_within g o.in_use o.within) in
       omega (arith, front, get_or-take g.standing (places old) at 0 inside)
 
   in_tree : Among row o.lies
@@ -76,7 +75,7 @@ module _ {E : Type 0} (dist : E → E → ℕ) (g : Gnat E) (o : GnatSound dist 
 
   module _ (r : Row E) (is_row : slice_get old row ≡ Some r) where
     pub it_is_listed : Among (sample_in r) (standing_in g)
-    it_is_listed = among_samples old (listed g) at r (omega (arith, length-take-le g.standing (places old) (omega (arith, long, in_rows dist g o)))) (ap (slice_get old) (get_or-take g.standing (places old) at 0 inside) ∙ is_row)
+    it_is_listed = among_samples old (listed g) at r (omega (arith, length-take-le g.standing (places old) (omega (arith, long, in_rows g o.in_use o.within)))) (ap (slice_get old) (get_or-take g.standing (places old) at 0 inside) ∙ is_row)
 
     it_stands : Among (sample_in r) (standing o.tree)
     it_stands = among_shuffle (sample_in r) (standing_in g) (standing o.tree) (shuffle_back _ _ o.files.stands) it_is_listed
@@ -95,25 +94,27 @@ module _ {E : Type 0} (dist : E → E → ℕ) (g : Gnat E) (o : GnatSound dist 
       numbers = o.numbers;
     }
 
-    module _ (n : ℕ) (is_number : r.number ≡ n) (later : List (Row E)) (root : Node) (kept_length : length later ≡ length old) (h : Gnat E) (is_root : h.root ≡ root) (same_settings : h.settings ≡ g.settings) (one_less : h.standing ≡ g.standing - 1) (same_last : h.last ≡ g.last) where
+    module _ (n : ℕ) (is_number : r.number ≡ n) (later : List (Row E)) (root : Node) (kept_length : length later ≡ length old) (h : State E) (is_root : h.root ≡ root) (same_settings : h.settings ≡ g.settings) (one_less : h.standing ≡ g.standing - 1) (same_last : h.last ≡ g.last) where
       -- the rows in the order R, with so many marked
       module _ (lies : List ℕ) (d : Shows later root (shrunk n o.tree) lies × OnlyIn o.lies old later) (R : List ℕ) (marked : ℕ) (RLength : length R ≡ length old) (first : take (g.standing - 1) R ≡ take at (listed g) ++ drop (suc at) (listed g))
-          (AllSame : Shuffle ℕ (take (capacity_of g) (places old)) (take (capacity_of g) R)) (fits : (g.standing - 1) + marked ≤ capacity_of g) (lists : Shuffle ℕ lies (take ((g.standing - 1) + marked) R)) (is_rows : h.rows.now ≡ placed R later) (is_marked : h.marked ≡ marked) where
-        ordered : TakenOut dist g n h
-        ordered = record {
-          sound = drop_sound dist g o at n inside r is_row is_number later root lies d.0 d.1 kept_length R marked RLength first AllSame fits lists h is_rows is_root same_settings one_less is_marked same_last;
-          means = means_so ∙ drop_means dist g o at n inside r is_row is_number later root lies d.0 d.1 kept_length R marked RLength first AllSame fits lists;
-          tree = ap (tree_of 1025 h.rows.now) is_root ∙ (ap (λ z. tree_of 1025 z root) is_rows ∙ drop_tree dist g o at n inside r is_row is_number later root lies d.0 d.1 kept_length R marked RLength first AllSame fits lists);
-          settings = same_settings;
-        }
+          (AllSame : Shuffle ℕ (take (capacity_of g) (places old)) (take (capacity_of g) R)) (fits : (g.standing - 1) + marked ≤ capacity_of g) (lists : Shuffle ℕ lies (take ((g.standing - 1) + marked) R)) (is_rows : h.rows ≡ placed R later) (is_marked : h.marked ≡ marked) where
+        ordered : LaidOut dist h × TakenOut dist g n h
+        ordered = (
+          drop_sound dist g o at n inside r is_row is_number later root lies d.0 d.1 kept_length R marked RLength first AllSame fits lists h is_rows is_root same_settings one_less is_marked same_last,
+          record {
+            means = means_so ∙ drop_means dist g o at n inside r is_row is_number later root lies d.0 d.1 kept_length R marked RLength first AllSame fits lists;
+            tree = ap (tree_of 1025 h.rows) is_root ∙ (ap (λ z. tree_of 1025 z root) is_rows ∙ drop_tree dist g o at n inside r is_row is_number later root lies d.0 d.1 kept_length R marked RLength first AllSame fits lists);
+            settings = same_settings;
+          },
+        )
           where
-            means_so : gnat_meaning h ≡ record { capacity = min (length (placed R later)) 1024; last = g.last; standing = samples_at (placed R later) (take (g.standing - 1) (places (placed R later))) }
+            means_so : meaning_of h ≡ record { capacity = min (length (placed R later)) 1024; last = g.last; standing = samples_at (placed R later) (take (g.standing - 1) (places (placed R later))) }
             means_so = λ k. record { capacity = min (length (is_rows k)) 1024; last = same_last k; standing = samples_at (is_rows k) (take (one_less k) (places (is_rows k))) }
 
       same_places : (lies : List ℕ) → OnlyIn o.lies old later → places later ≡ places old
       same_places lies only = places_only o.lies old later only kept_length
 
-      pub taken : (is_freed : Bool) → Drops old later root is_freed row (shrunk n o.tree) o.lies → h.rows.now ≡ placed (unlisted at g.standing g.marked is_freed (places later)) later → h.marked ≡ marked_then g.marked is_freed → TakenOut dist g n h
+      pub taken : (is_freed : Bool) → Drops old later root is_freed row (shrunk n o.tree) o.lies → h.rows ≡ placed (unlisted at g.standing g.marked is_freed (places later)) later → h.marked ≡ marked_then g.marked is_freed → LaidOut dist h × TakenOut dist g n h
       taken true d is_rows is_marked =
           let ls = d.lies in
           ordered ls (d.shows, d.only) (freed dist g o at inside ls) g.marked (freed_length dist g o at inside ls) (freed_first dist g o at inside ls) (freed_same dist g o at inside ls) (freed_fits dist g o at inside ls) (freed_lists dist g o at inside ls d.same_rows)

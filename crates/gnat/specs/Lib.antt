@@ -3,5 +3,7 @@ pub mod Chosen
 pub mod Gnats
 pub mod Lawful
 pub mod Leaving
+pub mod Once
 pub mod Refiling
+pub mod States
 pub mod Unlisting

@@ -29,7 +29,8 @@ pub(crate) fn enlist<E: Metric>(
 }
 
 // Lists the row at `at` behind those that stand, or behind those marked too if it is free, as the drop from the tree
-// told. Returns how many are marked.
+// told. Returns how many are marked. `freed` is a plain fact of the row, which every drop from the tree tells, beside the
+// node.
 pub(crate) fn unlist<E: Metric>(
     rows: &mut [Row<E>],
     at: usize,

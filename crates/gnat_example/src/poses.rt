@@ -1,4 +1,4 @@
-// Poses and cards in indexes: filed, dropped, found and refused.
+// Poses in a GNAT: filed, dropped, found and refused.
 use arm::Arm;
 use gnat::chosen::choose;
 use gnat::gnat::Gnat;
@@ -10,6 +10,7 @@ use telling::{
     tell_add, tell_drop, tell_element, tell_near, tell_refusal, tell_tally, tell_within,
 };
 
+// `example` has this pose and the calls below too: a crate to share them would be no plainer.
 fn pose(first: u16, second: u16) -> Arm {
     Arm {
         angles: [first, second, 0, 0, 0, 0],
@@ -17,9 +18,7 @@ fn pose(first: u16, second: u16) -> Arm {
 }
 
 // Poses filed, dropped and found, the same in every index.
-fn poses<I: Index<Element = Arm>>(rt: &HostRuntime, index: &mut I) -> io::Result<()>
-    requires { I.sound index.old }
-{
+fn poses<I: Index<Element = Arm>>(rt: &HostRuntime, index: &mut I) -> io::Result<()> {
     let mut list = [Hit {
         number: 0,
         distance: 0,

@@ -42,7 +42,8 @@ pub fn candidates<E: Metric>(rows: &[Row<E>], l: &Leaf, at: u16) -> ArrayVec<Can
     cs
 }
 
-// The next pivot is the farther one, of the smaller number if equal.
+// The next pivot is the farther one, of the smaller number if equal: the greater gap first and then the smaller number, an
+// order that neither a derive nor that of a tuple gives.
 fn is_farther(c: Candidate, d: Candidate) -> bool
     ensures { result ≡ farther_one c d }
 {
@@ -93,7 +94,8 @@ fn next_pivot<E: Metric>(rows: &[Row<E>], cs: &mut ArrayVec<Candidate, 33>) -> u
     pivot.row
 }
 
-// Chooses the rows of the pivots out of the candidates; the others stay, in their order.
+// Chooses the rows of the pivots out of the candidates; the others stay, in their order. The degree comes without a bucket,
+// as at `split`.
 pub fn choose<E: Metric>(
     rows: &[Row<E>],
     cs: &mut ArrayVec<Candidate, 33>,

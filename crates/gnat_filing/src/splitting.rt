@@ -46,7 +46,7 @@ fn clear<E: Metric>(rows: &mut [Row<E>], pivots: &[u16])
     }
 }
 
-// A branch with the ranges of its pivots alone.
+// A branch with the ranges of its pivots alone. The degree comes without a bucket, as at `split`.
 fn bare<E: Metric>(rows: &[Row<E>], pivots: [u16; 8], degree: usize) -> Branch
     requires { (1 ≤ degree) × ((degree ≤ 8) × (((k : ℕ) → k < degree → slice_index pivots k < length rows.now))) }
     ensures { Bare E.dist rows.now pivots degree result }

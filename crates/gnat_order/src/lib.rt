@@ -72,7 +72,8 @@ pub fn move_behind<E: Metric>(rows: &mut [Row<E>], at: usize, count: usize)
     ensures { rows.new ≡ placed (behind at count (places rows.old)) rows.old }
 {
     let moved = place_in(rows, at);
-    // By place: no iterator lends two neighbours of which one is written.
+    // By place: no iterator lends two neighbours of which one is written, and a place carried along `iter_mut().rev()` leaves
+    // only the length of the rows known.
     for i in at..count - 1 {
         let next = place_in(rows, i + 1);
         put_place(rows, i, next);

@@ -3,3 +3,4 @@ pub mod Trees
 pub mod Apart
 pub mod Showing
 pub mod Only
+pub mod Whole

@@ -1,6 +1,7 @@
 // The rows of a GNAT: each has a place for one sample, and for the node below it where the sample is
-// a pivot. Small functions read and write one field of one row: each gives its caller the fact of that row in the words of
-// the definitions, which a field read in place does not.
+// a pivot. Small functions read and write one field of one row, for those who file, drop and list: they reach a row by its
+// index, and get the fact of that row in the words of the definitions. Who holds a row by reference uses its fields in
+// place: `gnat_search` reads them, and `gnat_order::list_rows` writes `place`.
 #![tactic(auto)]
 
 ghost use Rattle.std.specs.Prelude.{◌≡◌, ◌<◌, length};
@@ -10,7 +11,8 @@ use metric::Metric;
 
 // Leaves and branches are copied out of a row, changed, and written back, so they are small arrays with a count.
 
-// A leaf: the rows of its samples, in the order filed.
+// A leaf: the rows of its samples, in the order filed. That `count` is at most 32 is no fact of the type: rows are lent, a
+// row's node is whatever the lender wrote, and a narrower type would ask more of him.
 #[derive(Clone, Copy)]
 pub struct Leaf {
     pub count: u8,
@@ -19,6 +21,9 @@ pub struct Leaf {
 
 // A branch: the rows of its pivots, and the ranges of every pivot to every child; low[j][i] and
 // high[j][i] are those of pivot i to child j. The child of a pivot is the node in the pivot's row.
+// That `count` is at most 8 is no fact of the type, as at `Leaf`. Two arrays and not one of pairs: a column of either is
+// written whole, as distances that were measured or as widened by its own function (least, greatest), where pairs would be
+// taken apart and put together again.
 #[derive(Clone, Copy)]
 pub struct Branch {
     pub count: u8,

@@ -11,7 +11,7 @@ use Rattle.gnat_theory.specs.Tree.{Tree, members}
 use Rattle.gnat_theory.specs.Searching.{Want, start, nearest_hits, hits_within, searched}
 use Rattle.gnat_theory.specs.Keeping.{Files}
 use Rattle.gnat_theory.proofs.Theorems.{search_exact}
-use Rattle.gnat_search.specs.declared.Found.{Found}
+use Rattle.gnat_search.specs.declared.found.Found.{Found}
 use Rattle.gnat_search.specs.Wants.{Kept}
 
 module _ {E : Type 0} (top : ℕ) (dist : E → E → ℕ) (laws : MetricLaws top dist) (degree bucket : ℕ) (xs : List (Sample E)) (t : Tree E) (q : E) (files : Files dist degree bucket xs t) (old new : List Hit) (r : Found) where

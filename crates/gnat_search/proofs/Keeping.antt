@@ -1,7 +1,7 @@
 -- The caller's list, hit by hit. Assumes nothing.
 use Rattle.std.proofs.Common.{◌≡◌, ℕ, zero, suc, ◌+◌, ◌-◌, ◌<◌, ◌≤◌, min, Bool, true, false, cond, leb, eqb, List, length, get_or, take, drop, Some, sym, refl, ap, ◌∙◌, subst, arith, length-append, length-drop, length-take}
 use Rattle.std.proofs.lemmas.List.{take-take, get_or_append_left, get_or-take}
-use Rattle.std.proofs.lemmas.Bool.{le-leb, eqb-true, eq-eqb}
+use Rattle.std.proofs.lemmas.Bool.{le-leb, lt-leb, eqb-true, eq-eqb}
 use Rattle.std.proofs.lemmas.Option.{slice_get_within, get_or_from_slice_get}
 use Rattle.std.specs.Bool.{then_some}
 use Rattle.std.specs.List.{slice_get}
@@ -10,11 +10,13 @@ use Rattle.hits.specs.Order.{Sorted, put}
 use Rattle.hits.specs.Lists.{over}
 use Rattle.hits.proofs.Putting.{length_put}
 use Rattle.hits.proofs.Keeping.{keep_front, keep_put, keep_more}
-use Rattle.gnat_theory.specs.Searching.{State, kth, nearest_hits, hits_within}
+use Rattle.gnat_theory.specs.Searching.{State, kth}
 use Rattle.gnat_theory.proofs.Ordering.{put_sorted}
 use Rattle.gnat_theory.proofs.Steps.{kth_there, kth_none, take_sorted, nearest_sorted}
-use Rattle.gnat_search.specs.declared.Found.{Found}
-use Rattle.gnat_search.specs.Wants.{Kept, counted_in}
+use Rattle.gnat_search.specs.declared.Aim.{Aim}
+use Rattle.gnat_search.specs.declared.Aim.TheVariants.{Nearest, Within}
+use Rattle.gnat_search.specs.declared.found.Found.{Found}
+use Rattle.gnat_search.specs.Wants.{want, Kept, counted_in}
 
 module _ (old list : List Hit) (p : Found) (st : State) (k : Kept old list p st) where
   pub kept_long : length list ≡ length old
@@ -30,28 +32,40 @@ module _ (old list : List Hit) (p : Found) (st : State) (k : Kept old list p st)
     counts : more ≡ min (length old) (length (put h st.kept))
     counts = keep_more p.held h st.kept list new old k.writes k.holds more n
 
-    pub near_kept : Kept old new (record { found = more; held = more; measured = p.measured + 1 }) (counted_in (nearest_hits (length list)) h st)
-    near_kept =
-        let some : length (take (length list) (put h st.kept)) ≡ more = length-take (length list) (put h st.kept) ∙ omega (arith, counts, kept_long) in
-        record {
-          finds = sym some;
-          holds = omega (arith, counts, some, kept_long);
-          measures = omega (arith, k.measures);
-          writes = placed ∙ ap (λ z. over z old) (sym (ap (λ m. take (length old) (take m (put h st.kept))) kept_long ∙ take-take (length old) (length old) (put h st.kept) (omega arith)));
-          sorted = nearest_sorted (length list) h st.kept k.sorted;
-        }
+    -- it counts, by the aim
+    module _ (a : Aim) (r : Found) (held : r.held ≡ more) (measured : r.measured ≡ p.measured + 1) where
+      pub near_kept : a ≡ Nearest → r.found ≡ more → Kept old new r (counted_in (want a (length list)) h st)
+      near_kept is found =
+          let some : length (take (length list) (put h st.kept)) ≡ more = length-take (length list) (put h st.kept) ∙ omega (arith, counts, kept_long) in
+          subst (λ z. Kept old new r (counted_in (want z (length list)) h st)) (sym is)
+          (record {
+            finds = found ∙ sym some;
+            holds = omega (arith, held, counts, some, kept_long);
+            measures = omega (arith, measured, k.measures);
+            writes = placed ∙ ap (λ z. over z old) (sym (ap (λ m. take (length old) (take m (put h st.kept))) kept_long ∙ take-take (length old) (length old) (put h st.kept) (omega arith)));
+            sorted = nearest_sorted (length list) h st.kept k.sorted;
+          })
 
-    pub within_kept : (r : ℕ) → h.distance ≤ r → Kept old new (record { found = p.found + 1; held = more; measured = p.measured + 1 }) (counted_in (hits_within r) h st)
-    within_kept r l =
-        let whole : cond (leb h.distance r) (put h st.kept) st.kept ≡ put h st.kept = ap (λ t. cond t (put h st.kept) st.kept) (le-leb h.distance r l) in
-        subst (λ z. Kept old new (record { found = p.found + 1; held = more; measured = p.measured + 1 }) (record { kept = z; measured = suc st.measured })) (sym whole)
-        (record {
-          finds = omega (arith, k.finds, length_put h st.kept);
-          holds = counts;
-          measures = omega (arith, k.measures);
-          writes = placed;
-          sorted = put_sorted h st.kept k.sorted;
-        })
+      pub within_kept : (radius : ℕ) → a ≡ Within radius → h.distance ≤ radius → r.found ≡ p.found + 1 → Kept old new r (counted_in (want a (length list)) h st)
+      within_kept radius is l found =
+          let whole : cond (leb h.distance radius) (put h st.kept) st.kept ≡ put h st.kept = ap (λ t. cond t (put h st.kept) st.kept) (le-leb h.distance radius l) in
+          subst (λ z. Kept old new r (counted_in (want z (length list)) h st)) (sym is)
+          (subst (λ z. Kept old new r (record { kept = z; measured = suc st.measured })) (sym whole)
+          (record {
+            finds = omega (arith, found, k.finds, length_put h st.kept);
+            holds = held ∙ counts;
+            measures = omega (arith, measured, k.measures);
+            writes = placed;
+            sorted = put_sorted h st.kept k.sorted;
+          }))
+
+  -- a hit outside the radius is not placed
+  pub outside_kept : (h : Hit) (new : List Hit) (a : Aim) (r : Found) (radius : ℕ) → a ≡ Within radius → radius < h.distance → new ≡ list → r.found ≡ p.found → r.held ≡ p.held → r.measured ≡ p.measured + 1 → Kept old new r (counted_in (want a (length list)) h st)
+  outside_kept h new a r radius is l same found held measured =
+      let none : cond (leb h.distance radius) (put h st.kept) st.kept ≡ st.kept = ap (λ t. cond t (put h st.kept) st.kept) (lt-leb h.distance radius l) in
+      subst (λ z. Kept old new r (counted_in (want z (length list)) h st)) (sym is)
+      (subst (λ z. Kept old new r (record { kept = z; measured = suc st.measured })) (sym none)
+      (record { finds = found ∙ k.finds; holds = held ∙ k.holds; measures = omega (arith, measured, k.measures); writes = same ∙ k.writes; sorted = k.sorted }))
 
   -- the farthest hit of a full list is the k-th
   pub full_reach : (d : Hit) → 0 < length list → p.held ≡ length list → Some (get_or list (length list - 1) d).distance ≡ kth (length list) st.kept

@@ -10,7 +10,7 @@ use Rattle.gnat_theory.specs.Searching.Sight.{passed, seen}
 use Rattle.gnat_rows.specs.declared.Branch.{Branch}
 use Rattle.gnat_rows.specs.declared.Row.{Row}
 use Rattle.gnat_rows.specs.Shows.{ShowsParts, pivot_in}
-use Rattle.gnat_search.specs.declared.Found.{Found}
+use Rattle.gnat_search.specs.declared.found.Found.{Found}
 use Rattle.gnat_search.specs.Wants.{Kept}
 use Rattle.gnat_search.specs.Nodes.{StruckMore, Flags}
 use Rattle.gnat_search.proofs.Rows.{same_row}

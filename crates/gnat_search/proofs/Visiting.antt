@@ -18,7 +18,7 @@ use Rattle.gnat_rows.specs.declared.Node.TheVariants as node
 use Rattle.gnat_rows.specs.declared.Row.{Row}
 use Rattle.gnat_rows.specs.Shows.{Shows}
 use Rattle.gnat_search.specs.declared.Aim.{Aim}
-use Rattle.gnat_search.specs.declared.Found.{Found}
+use Rattle.gnat_search.specs.declared.found.Found.{Found}
 use Rattle.gnat_search.specs.Wants.{want, Counted, Kept}
 use Rattle.gnat_search.specs.Nodes.{open_rows, LeafShown, BranchShown, LeafMeasured, BranchSurveyed, Waiting, Searchable, Visited}
 use Rattle.gnat_search.proofs.Keeping.{kept_long}
@@ -74,8 +74,6 @@ pub record Still {E : Type 0} (dist : E → E → ℕ) (q : E) (w : Want) (old :
   pub gives : searched_all dist q w ts state ≡ searched dist q w tree start
   pub keeps : Kept old list p state
   pub light : weight ts ≤ 1025
-  pub shown : p.held ≤ p.found
-  pub few : p.found ≤ p.measured
   pub ahead : p.measured + 32 * weight ts ≤ 32800
 
 -- a node is to be visited, and rows are pending
@@ -127,17 +125,15 @@ module _ {E : Type 0} (rows : List (Row E)) (dist : E → E → ℕ) (q : E) (ai
                 gives = sym (turn_step dist q w v.ts v.here st) ∙ v.still.gives;
                 keeps = m.0;
                 light = omega (arith, v.still.light);
-                shown = c.shown;
-                few = c.few;
-                ahead = omega (arith, v.still.ahead, c.most);
+                ahead = omega (arith, v.still.ahead, c);
               };
             },
             falls,
           )
 
-  -- the root is visited first
-  first_visit : Searchable rows 1024 root → Visit rows dist q aim root old [] root old (record { found = 0; held = 0; measured = 0 })
-  first_visit s = record {
+  -- the root is visited first, and nothing is counted before
+  first_visit : (p : Found) → (p.found ≡ 0) × ((p.held ≡ 0) × (p.measured ≡ 0)) → Searchable rows 1024 root → Visit rows dist q aim root old [] root old p
+  first_visit p zeros s = record {
     tree = s.0;
     fs = s.1;
     roots = s.2;
@@ -149,11 +145,9 @@ module _ {E : Type 0} (rows : List (Row E)) (dist : E → E → ℕ) (q : E) (ai
     still = record {
       state = start;
       gives = refl;
-      keeps = record { finds = refl; holds = omega arith; measures = refl; writes = ap (λ z. over z old) (sym (take_nil (length old))); sorted = tt };
+      keeps = record { finds = zeros.0; holds = omega (arith, zeros.1.0); measures = zeros.1.1; writes = ap (λ z. over z old) (sym (take_nil (length old))); sorted = tt };
       light = omega (arith, s.3);
-      shown = omega arith;
-      few = omega arith;
-      ahead = omega (arith, s.3);
+      ahead = omega (arith, zeros.1.1, s.3);
     };
   }
     where
@@ -161,9 +155,8 @@ module _ {E : Type 0} (rows : List (Row E)) (dist : E → E → ℕ) (q : E) (ai
       take_nil zero = refl
       take_nil (suc n) = refl
 
-  pub root_visited : Searchable rows 1024 root → (is js : List ℕ) (new : List Hit) (r : Found) → is ≡ [] → Counted (record { found = 0; held = 0; measured = 0 }) r 32 → Visited rows dist q aim root old new (record { found = 0; held = 0; measured = 0 }) r is js → Pause rows dist q aim root old js new r
-  root_visited s is js new r empty c made =
-      (turned [] root old (record { found = 0; held = 0; measured = 0 }) (first_visit s) js new r c (subst (λ z. Visited rows dist q aim root old new (record { found = 0; held = 0; measured = 0 }) r z js) empty made)).0
+  pub root_visited : (p : Found) → (p.found ≡ 0) × ((p.held ≡ 0) × (p.measured ≡ 0)) → Searchable rows 1024 root → (is js : List ℕ) (new : List Hit) (r : Found) → is ≡ [] → Counted p r 32 → Visited rows dist q aim root old new p r is js → Pause rows dist q aim root old js new r
+  root_visited p zeros s is js new r empty c made = (turned [] root old p (first_visit p zeros s) js new r c (subst (λ z. Visited rows dist q aim root old new p r z js) empty made)).0
 
   module _ (list : List Hit) (p : Found) where
     -- nothing is pending

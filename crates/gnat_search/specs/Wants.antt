@@ -7,24 +7,22 @@ use Rattle.gnat_theory.specs.Searching.{Want, State, nearest_hits, hits_within, 
 use Rattle.gnat_theory.specs.Tree.{Pivot}
 use Rattle.gnat_search.specs.declared.Aim.{Aim}
 use Rattle.gnat_search.specs.declared.Aim.TheVariants.{Nearest, Within}
-use Rattle.gnat_search.specs.declared.Found.{Found}
+use Rattle.gnat_search.specs.declared.found.Found.{Found}
 
 -- with k places in the list
 abbrev pub want : Aim → ℕ → Want
 want Nearest k = nearest_hits k
 want (Within r) k = hits_within r
 
+-- Room and Counted are of the counts and of how many more a call may measure. That is no one value, so neither is a fact
+-- of `Found`.
 -- n more can be measured
-pub record Room (p : Found) (n : ℕ) : Type 0 where
-  pub shown : p.held ≤ p.found
-  pub few : p.found ≤ p.measured
-  pub fits : p.measured + n < 2 ^ 32
+abbrev pub Room : Found → ℕ → Type 0
+Room p n = p.measured + n < 2 ^ 32
 
 -- at most n more were measured
-pub record Counted (p r : Found) (n : ℕ) : Type 0 where
-  pub shown : r.held ≤ r.found
-  pub few : r.found ≤ r.measured
-  pub most : r.measured ≤ p.measured + n
+abbrev pub Counted : Found → Found → ℕ → Type 0
+Counted p r n = r.measured ≤ p.measured + n
 
 -- The list, which was `old` when the search began, and the counts stand for this state: as many of the hits kept as the
 -- list has places stand in it, in order.

@@ -9,27 +9,24 @@ ghost use Rattle.gnat_rows.specs.Shows.{sample_in, pivot_in};
 ghost use Rattle.gnat_search.specs.Wants.{want, Room, Counted, Kept, Steps, counted_in, PivotCounted};
 ghost use Rattle.gnat_search.specs.Nodes.{HasRange, StruckMore, open_rows, LeafShown, BranchShown, Searchable, LeafMeasured, BranchSurveyed, Visited, Searched};
 
+mod found;
+
 use arrayvec::ArrayVec;
+pub use found::Found;
 use gnat_rows::{Branch, Leaf, Node, Row};
 use hits::{Hit, place};
 use metric::Metric;
 use std::array;
-// The rows that can be pending at once.
+
+// The rows that can be pending at once: each holds a pivot of its own, and a tree has at most 1,024.
 const PENDING: usize = 1024;
 
-// What is wanted: the nearest, as many as the list has places, or all within a radius.
+// What is wanted: the nearest, as many as the list has places, or all within a radius. No `Option`: each of the two says
+// what is wanted, and `None` would say nothing.
 #[derive(Clone, Copy)]
 pub enum Aim {
     Nearest,
     Within(u32),
-}
-
-// How many hits were found, how many of them the list holds, and how many distances were measured.
-#[derive(Clone, Copy)]
-pub struct Found {
-    pub found: usize,
-    pub held: usize,
-    pub measured: u32,
 }
 
 // What the pivots of a branch have shown: the counts then, and which children are struck. A child keeps its place
@@ -66,7 +63,11 @@ impl Aim {
                         measured,
                     }
                 } else {
-                    Found { measured, ..so_far }
+                    Found {
+                        found: so_far.found,
+                        held: so_far.held,
+                        measured,
+                    }
                 }
             }
         }
@@ -167,8 +168,9 @@ impl<'a, E: Metric> Quest<'a, E> {
     {
         if row.marked {
             return Found {
+                found: so_far.found,
+                held: so_far.held,
                 measured: so_far.measured + 1,
-                ..so_far
             };
         }
         let hit = Hit {

@@ -26,10 +26,7 @@ fn call_both<I: Index<Element = Card>, J: Index<Element = Card>>(
     call: Call,
     list: &mut [Hit],
     other_list: &mut [Hit],
-) -> Result<(), Fail>
-    requires { (I.Index.sound one.old) × (J.Index.sound other.old) }
-    ensures { (I.Index.sound one.new) × (J.Index.sound other.new) }
-{
+) -> Result<(), Fail> {
     match call {
         Call::Add(e) => assert_eq!(rt; one.add(e), other.add(e)),
         Call::Drop(n) => assert_eq!(rt; one.drop(n), other.drop(n)),
@@ -52,9 +49,7 @@ pub fn run<I: Index<Element = Card>, J: Index<Element = Card>>(
     other: &mut J,
     mut script: Script,
     turns: u32,
-) -> Result<(), Fail>
-    requires { (I.Index.sound one.old) × (J.Index.sound other.old) }
-{
+) -> Result<(), Fail> {
     for turn in 0..turns {
         let (_, _, last) = one.tally();
         let call = script.call(turn, last);

@@ -5,6 +5,7 @@ use card::Card;
 use gnat::chosen::choose;
 use gnat::gnat::Gnat;
 use gnat_rows::{Node, Row as TreeRow};
+use index::index::Index;
 use index::refusal::Refusal;
 use scan::rows::Row;
 use scan::scan::Scan;
@@ -14,23 +15,14 @@ use std::test::Fail;
 
 const SETTINGS: [(u32, u32); 6] = [(2, 2), (2, 5), (3, 3), (4, 9), (8, 8), (8, 32)];
 
-// What choosing tells: 0, or the value refused.
-fn told(degree: u32, bucket: u32) -> u32 {
-    match choose(degree, bucket) {
-        Ok(_) => 0,
-        Err(Refusal::Setting(value)) => value,
-        Err(_) => 99,
-    }
-}
-
 #[test]
 fn settings_at_their_bounds(rt: HostRuntime) -> Result<(), Fail> {
-    assert_eq!(rt; told(2, 2), 0);
-    assert_eq!(rt; told(8, 32), 0);
-    assert_eq!(rt; told(2, 1), 1);
-    assert_eq!(rt; told(8, 33), 33);
-    assert_eq!(rt; told(1, 33), 1);
-    assert_eq!(rt; told(9, 9), 9);
+    assert_eq!(rt; choose(2, 2).err(), None);
+    assert_eq!(rt; choose(8, 32).err(), None);
+    assert_eq!(rt; choose(2, 1).err(), Some(Refusal::Setting(1)));
+    assert_eq!(rt; choose(8, 33).err(), Some(Refusal::Setting(33)));
+    assert_eq!(rt; choose(1, 33).err(), Some(Refusal::Setting(1)));
+    assert_eq!(rt; choose(9, 9).err(), Some(Refusal::Setting(9)));
     Ok(())
 }
 
@@ -112,6 +104,27 @@ fn waves(rt: HostRuntime) -> Result<(), Fail> {
         beside_all(&rt, 40, all, values, 2000)?;
         beside_all(&rt, 2, half, values, 500)?;
     }
+    Ok(())
+}
+
+// One sample added and dropped again and again: 65,535 is the last number that is given.
+fn use_up<I: Index<Element = Card>>(rt: &impl Abort, index: &mut I) {
+    let card = Card { slots: [1; 8] };
+    for number in 1..=65535 {
+        assert_eq!(rt; index.add(card), Ok(number));
+        assert_eq!(rt; index.drop(number), Ok(()));
+    }
+    assert_eq!(rt; index.add(card), Err(Refusal::NumbersUsedUp));
+    assert_eq!(rt; index.tally(), (1, 0, 65535));
+}
+
+#[test]
+fn numbers_used_up(rt: HostRuntime) -> Result<(), Fail> {
+    let blank = Card { slots: [0; 8] };
+    let mut rows = [Row::vacant(blank); 1];
+    let mut tree_rows = [TreeRow::vacant(blank); 1];
+    use_up(&rt, &mut Scan::new(&mut rows));
+    use_up(&rt, &mut Gnat::new(&mut tree_rows, choose(2, 2)?));
     Ok(())
 }
 

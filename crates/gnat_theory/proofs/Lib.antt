@@ -17,3 +17,5 @@ pub mod Reaching
 pub mod Pruning
 pub mod Steps
 pub mod Sublists
+pub mod Counting
+pub mod Unique

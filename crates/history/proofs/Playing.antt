@@ -5,19 +5,20 @@ use Rattle.checker.specs.Laws.{Symmetric}
 use Rattle.index.specs.Meaning.{Meaning}
 use Rattle.roadmap.specs.declared.Unmade.{Unmade}
 use Rattle.roadmap.specs.declared.Unmade.TheVariants.{Setting, TooFewRecords}
-use Rattle.roadmap.specs.Roads.{Road, Made}
+use Rattle.roadmap.specs.Roads.{Road}
+use Rattle.roadmap.specs.Roadmaps.{Made}
 use Rattle.history.specs.declared.Unplayed.{Unplayed}
 use Rattle.history.specs.declared.Unplayed.TheVariants as play
 use Rattle.history.specs.declared.Call.{Call}
 use Rattle.history.specs.declared.Call.TheVariants as call
-use Rattle.history_theory.specs.History.{History, then_asks}
+use Rattle.history_theory.specs.History.{History, start, then_asks}
 use Rattle.history.specs.Turns.{Said, Lent, reply, asked, Does, Runs, final, Ran}
 use Rattle.history.specs.Fitting.{unless}
 use Rattle.history.proofs.Fitting.{OfAList}
-use Rattle.history.specs.Law.{Turn, Plays, AllAlike, Judged, JudgedFitting, Whole}
+use Rattle.history.specs.Law.{Turn, Plays, Alone, AllAlike, Judged, JudgedFitting, Whole}
 use Rattle.history.proofs.One.{same_plays}
 use Rattle.history_theory.proofs.Owes.{owed}
-use Rattle.history_theory.proofs.Reaching.{Reached}
+use Rattle.history_theory.proofs.Reaching.{Reached, reached_new}
 use Rattle.history_theory.proofs.Giving.{gives_of}
 use Rattle.history_theory.proofs.Going.{Fair, next}
 
@@ -46,6 +47,17 @@ module _ {E C : Type 0} (dist : E → E → ℕ) (passes : C → E → E → Boo
   plays_of h road after (c ∷ cs) l (a ∷ as') (m ∷ ms) r x =
       (turn h road x.0 c l m a r x.1, plays_of (then_asks h (asked passes c l)) x.0 after cs m as' ms (next dist top laws h road x.0 (asked passes c l) (reply a) x.1.lists (fair c l) r x.1.tells) x.2)
 
+-- a run by itself
+module _ {E C : Type 0} (dist : E → E → ℕ) (top : ℕ) (laws : MetricLaws top dist) (p : C → E → E → Bool) (even : Symmetric p) where
+  pub alone : (k : ℕ) (m : Meaning E) (road after : Road E) (cs : List (Call E C)) (l n : Lent) (as' : List (Said E)) → m.capacity ≤ 1024 → road ≡ record { index = m; k = k; edges = [] } → Ran dist p road cs l as' n after → Alone dist p k m cs l as' n
+  alone k m road after cs l n as' small is x = record {
+    after = after;
+    ran = subst (λ r. Ran dist p r cs l as' n after) is x;
+    played = λ size fresh_index.
+        let few : size ≤ 1024 = subst (λ z. z.capacity ≤ 1024) fresh_index small in
+        record { turns = x.turns; plays = plays_of dist p even top laws (start k size) road after cs l as' x.turns (reached_new dist k size few road m is fresh_index) x.runs; ends = x.ends };
+  }
+
 -- two runs from one history
 module _ {E C D : Type 0} (dist : E → E → ℕ) (top : ℕ) (laws : MetricLaws top dist) (p : C → E → E → Bool) (evenP : Symmetric p) (q : D → E → E → Bool) (evenQ : Symmetric q) where
   pub whole : (h : History E) (one two afterO afterT : Road E) (cs : List (Call E C)) (ds : List (Call E D)) (l m n : Lent) (as' bs : List (Said E)) → Reached dist h one → Reached dist h two → AllAlike p q cs ds → Ran dist p one cs l as' m afterO → Ran dist q two ds l bs n afterT → Whole dist p q h cs ds l as' m bs n
@@ -73,11 +85,11 @@ judged_fit k calls answers others again fits fits_again capacity links second sp
 judged_fit k calls answers others again fits fits_again capacity links second spare (Err (play.Unmade (TooFewRecords n))) a b f g j = (j.0, j.1, f, g, j.2, j.3, j.4)
 
 -- a roadmap that is not made
-module _ {I E : Type 0} (sound : I → Type 0) (meaning : I → Meaning E) (i : I) (k : ℕ) where
-  pub judged_first : (calls answers others again links second spare : ℕ) (u : Unmade) → answers ≡ calls → again ≡ others → Made sound meaning i k links (Err u) → Judged k calls answers others again (meaning i).capacity links second spare (Err (play.Unmade u))
+module _ {I E : Type 0} (J : _) (M : _) (meaning : I → Meaning E) (i : I) (k : ℕ) where
+  pub judged_first : (calls answers others again links second spare : ℕ) (u : Unmade) → answers ≡ calls → again ≡ others → Made {J = J} {M = M} meaning i k links (Err u) → Judged k calls answers others again (meaning i).capacity links second spare (Err (play.Unmade u))
   judged_first calls answers others again links second spare (Setting v) a b m = (a, b, m.0, m.1)
   judged_first calls answers others again links second spare (TooFewRecords n) a b m = (a, b, m.0, m.1, inl (m.2, m.3))
 
-  pub judged_second : (calls answers others again capacity links spare : ℕ) (u : Unmade) → answers ≡ calls → again ≡ others → capacity ≤ links → Made sound meaning i k spare (Err u) → Judged k calls answers others again capacity links (meaning i).capacity spare (Err (play.Unmade u))
+  pub judged_second : (calls answers others again capacity links spare : ℕ) (u : Unmade) → answers ≡ calls → again ≡ others → capacity ≤ links → Made {J = J} {M = M} meaning i k spare (Err u) → Judged k calls answers others again capacity links (meaning i).capacity spare (Err (play.Unmade u))
   judged_second calls answers others again capacity links spare (Setting v) a b f m = (a, b, m.0, m.1)
   judged_second calls answers others again capacity links spare (TooFewRecords n) a b f m = (a, b, m.0, m.1, inr (f, m.2, m.3))

@@ -5,10 +5,12 @@ use Rattle.history.specs.declared.Call.TheVariants as call
 use Rattle.history.specs.declared.Unplayed.{Unplayed}
 use Rattle.history.specs.declared.Unplayed.TheVariants.{Unmade, Answers, Hits, Numbers}
 use Rattle.roadmap.specs.declared.Unmade.TheVariants.{Setting, TooFewRecords}
-use Rattle.history_theory.specs.History.{Reply, Lists, History, then_asks, Gives}
+use Rattle.index.specs.Meaning.{Meaning, fresh}
+use Rattle.roadmap.specs.Roads.{Road}
+use Rattle.history_theory.specs.History.{Reply, Lists, History, start, then_asks, Gives}
 use Rattle.history_theory.specs.Owed.{Owed}
 use Rattle.history.specs.Fitting.{unless}
-use Rattle.history.specs.Turns.{Said, Lent, reply, asked, places_of, lists_after, final}
+use Rattle.history.specs.Turns.{Said, Lent, reply, asked, places_of, lists_after, final, Ran}
 
 module _ {E C : Type 0} (dist : E → E → ℕ) (passes : C → E → E → Bool) where
   -- one turn of a run: the call is answered, and its list left, as the history gives, with what is owed of it
@@ -26,6 +28,19 @@ module _ {E C : Type 0} (dist : E → E → ℕ) (passes : C → E → E → Boo
   Plays h (c ∷ cs) l [] ms = ⊥
   Plays h (c ∷ cs) l (a ∷ as') [] = ⊥
   Plays h (c ∷ cs) l (a ∷ as') (m ∷ ms) = Turn h c l a m × Plays (then_asks h (asked passes c l)) cs m as' ms
+
+-- A run of a history: every turn is as the history gives, with what is owed of islands and routes.
+pub record Played {E C : Type 0} (dist : E → E → ℕ) (passes : C → E → E → Bool) (h : History E) (cs : List (Call E C)) (l : Lent) (answers : List (Said E)) (m : Lent) : Type 0 where
+  pub turns : List Lent
+  pub plays : Plays dist passes h cs l answers turns
+  pub ends : final l turns ≡ m
+
+-- A run by itself: over any index every turn is as the roadmap's own call tells it, and over a fresh one it is a run of its
+-- history.
+pub record Alone {E C : Type 0} (dist : E → E → ℕ) (passes : C → E → E → Bool) (k : ℕ) (index : Meaning E) (cs : List (Call E C)) (l : Lent) (answers : List (Said E)) (m : Lent) : Type 0 where
+  pub after : Road E
+  pub ran : Ran dist passes (record { index = index; k = k; edges = [] }) cs l answers m after
+  pub played : (size : ℕ) → index ≡ fresh size → Played dist passes (start k size) cs l answers m
 
 -- two calls that ask the same: equal arguments, and checkers that pass the same pairs
 pub data Alike {E C D : Type 0} (p : C → E → E → Bool) (q : D → E → E → Bool) : Call E C → Call E D → Type 0 where

@@ -3,12 +3,12 @@
 
 ghost use Rattle.std.specs.Prelude.{◌≡◌, ℕ, length, Ok, Err};
 ghost use Rattle.index.specs.Meaning.{fresh};
-ghost use Rattle.roadmap.specs.Roads.{road_of, RoadSound};
+ghost use Rattle.roadmap.specs.Roadmaps.{road_of};
 ghost use Rattle.history.specs.Turns.{lent, Does, Ran};
 ghost use Rattle.history.specs.Fitting.{hit_places, number_places, fits_call, fitting};
 ghost use Rattle.history.specs.declared.Unplayed.TheVariants.{Unmade as UnmadeCase};
 ghost use Rattle.history_theory.specs.History.{start};
-ghost use Rattle.history.specs.Law.{AllAlike, Judged, JudgedFitting, Whole};
+ghost use Rattle.history.specs.Law.{AllAlike, Alone, Judged, JudgedFitting, Whole};
 
 use checker::Checker;
 use hits::Hit;
@@ -119,8 +119,6 @@ pub fn ask<'a, I: Index + Drop, C: Checker<I::Element>>(
     list: &mut [Hit],
     numbers: &mut [u16],
 ) -> Result<Answer<I::Element>, Refusal>
-    requires { RoadSound I.Index.sound I.Index.meaning road.old }
-    ensures stays { RoadSound I.Index.sound I.Index.meaning road.new }
     ensures does { Does I.Element.Metric.dist C.Checker.passes (road_of I.Index.meaning road.old) call.now (lent list.old numbers.old) result (lent list.new numbers.new) (road_of I.Index.meaning road.new) }
 {
     match call {
@@ -162,8 +160,7 @@ fn run<'a, I: Index + Drop, C: Checker<I::Element>>(
     numbers: &mut [u16],
     answers: &mut [Result<Answer<I::Element>, Refusal>],
 )
-    requires { (RoadSound I.Index.sound I.Index.meaning road.old) × (length calls.now ≡ length answers.old) }
-    ensures stays { RoadSound I.Index.sound I.Index.meaning road.new }
+    requires { length calls.now ≡ length answers.old }
     ensures ran { Ran I.Element.Metric.dist C.Checker.passes (road_of I.Index.meaning road.old) calls.now (lent list.old numbers.old) answers.new (lent list.new numbers.new) (road_of I.Index.meaning road.new) }
 {
     for (i, call) in calls.iter().enumerate() {
@@ -172,7 +169,7 @@ fn run<'a, I: Index + Drop, C: Checker<I::Element>>(
 }
 
 // Makes a roadmap over each of two indexes of one kind, and makes the same calls on both, with lists of their
-// own. Two fresh indexes of one capacity then answer alike and leave their lists alike at every turn, as the
+// own, which are parameters of their own, as at `ask`. Two fresh indexes of one capacity then answer alike and leave their lists alike at every turn, as the
 // history says, if the calls are the same, the checkers pass the same pairs and the lists held the same.
 pub fn compare<
     'a,
@@ -196,9 +193,10 @@ pub fn compare<
     answers: &mut [Result<Answer<I::Element>, Refusal>],
     again: &mut [Result<Answer<I::Element>, Refusal>],
 ) -> Result<(), Unplayed>
-    requires { (I.Index.sound first) × (J.Index.sound second) }
     ensures judged { Judged k (length calls.now) (length answers.old) (length others.now) (length again.old) (I.Index.meaning first).capacity (length links.old) (J.Index.meaning second).capacity (length spare.old) result }
     ensures kept { (u : Unplayed) → result ≡ Err u → (answers.new ≡ answers.old) × (again.new ≡ again.old) × (list.new ≡ list.old) × (copy.new ≡ copy.old) × (numbers.new ≡ numbers.old) × (twins.new ≡ twins.old) }
+    ensures one_run { result ≡ Ok tt → Alone I.Element.Metric.dist C.Checker.passes k (I.Index.meaning first) calls.now (lent list.old numbers.old) answers.new (lent list.new numbers.new) }
+    ensures other_run { result ≡ Ok tt → Alone I.Element.Metric.dist D.Checker.passes k (J.Index.meaning second) others.now (lent copy.old twins.old) again.new (lent copy.new twins.new) }
     ensures law { result ≡ Ok tt → (size : ℕ) → I.Index.meaning first ≡ fresh size → J.Index.meaning second ≡ fresh size → AllAlike C.Checker.passes D.Checker.passes calls.now others.now → list.old ≡ copy.old → numbers.old ≡ twins.old → Whole I.Element.Metric.dist C.Checker.passes D.Checker.passes (start k size) calls.now others.now (lent list.old numbers.old) answers.new (lent list.new numbers.new) again.new (lent copy.new twins.new) }
 {
     if answers.len() != calls.len() {
@@ -237,9 +235,10 @@ pub fn compare_fitting<
     answers: &mut [Result<Answer<I::Element>, Refusal>],
     again: &mut [Result<Answer<I::Element>, Refusal>],
 ) -> Result<(), Unplayed>
-    requires { (I.Index.sound first) × (J.Index.sound second) }
     ensures judged { JudgedFitting k (length calls.now) (length answers.old) (length others.now) (length again.old) (fitting (length list.old) (length numbers.old) calls.now) (fitting (length copy.old) (length twins.old) others.now) (I.Index.meaning first).capacity (length links.old) (J.Index.meaning second).capacity (length spare.old) result }
     ensures kept { (u : Unplayed) → result ≡ Err u → (answers.new ≡ answers.old) × (again.new ≡ again.old) × (list.new ≡ list.old) × (copy.new ≡ copy.old) × (numbers.new ≡ numbers.old) × (twins.new ≡ twins.old) }
+    ensures one_run { result ≡ Ok tt → Alone I.Element.Metric.dist C.Checker.passes k (I.Index.meaning first) calls.now (lent list.old numbers.old) answers.new (lent list.new numbers.new) }
+    ensures other_run { result ≡ Ok tt → Alone I.Element.Metric.dist D.Checker.passes k (J.Index.meaning second) others.now (lent copy.old twins.old) again.new (lent copy.new twins.new) }
     ensures law { result ≡ Ok tt → (size : ℕ) → I.Index.meaning first ≡ fresh size → J.Index.meaning second ≡ fresh size → AllAlike C.Checker.passes D.Checker.passes calls.now others.now → list.old ≡ copy.old → numbers.old ≡ twins.old → Whole I.Element.Metric.dist C.Checker.passes D.Checker.passes (start k size) calls.now others.now (lent list.old numbers.old) answers.new (lent list.new numbers.new) again.new (lent copy.new twins.new) }
 {
     if answers.len() != calls.len() {

@@ -1,5 +1,7 @@
 -- Samples, and the hits of a query among them.
 use Rattle.std.specs.Prelude.{◌≡◌, ℕ, ◌<◌, ◌≤◌, ◌⊎◌, List, [], ◌∷◌, length}
+use Rattle.std.specs.Coded.{Unit-prop, le_prop}
+use mathlib.Core.HLevel.{×₃_prop}
 use Rattle.hits.specs.declared.Hit.{Hit}
 use Rattle.hits.specs.Order.{InOrder, put}
 
@@ -17,6 +19,11 @@ Among x (y ∷ ys) = (x ≡ y) ⊎ Among x ys
 abbrev pub Rising : {E : Type 0} → ℕ → ℕ → List (Sample E) → Type 0
 Rising low high [] = Unit {0}
 Rising low high (s ∷ rest) = (low < s.number) × (s.number ≤ high) × Rising s.number high rest
+
+-- that numbers rise has one proof at most
+pub Rising-prop : {E : Type 0} (low high : ℕ) (xs : List (Sample E)) → IsProp (Rising low high xs)
+Rising-prop low high [] = Unit-prop
+Rising-prop low high (s ∷ rest) = ×₃_prop le_prop le_prop (Rising-prop s.number high rest)
 
 module _ {E : Type 0} (dist : E → E → ℕ) (q : E) where
   -- a sample's hit: its number and its distance from the query

@@ -14,9 +14,9 @@ pub record Lawful {E : Type 0} (m : Meaning E) : Type 0 where
   pub rising : Rising 0 m.last m.standing
   pub room : length m.standing ≤ m.capacity
 
--- lawful in every state that is sound
-abbrev pub AlwaysLawful : {I E : Type 0} → (I → Type 0) → (I → Meaning E) → Type 0
-AlwaysLawful sound meaning = (s : _) → sound s → Lawful (meaning s)
+-- lawful in every state
+abbrev pub AlwaysLawful : {I E : Type 0} → (I → Meaning E) → Type 0
+AlwaysLawful meaning = (s : _) → Lawful (meaning s)
 
 module _ {E : Type 0} where
   -- an index that has given no number

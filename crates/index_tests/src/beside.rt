@@ -48,9 +48,7 @@ fn ask_near<I: Index<Element = Card>>(
     q: &Card,
     k: usize,
     list: &mut [Hit],
-) -> Result<(), Fail>
-    requires { I.sound index.now }
-{
+) -> Result<(), Fail> {
     list.fill(MARK);
     let answer = index.near(q, k, list);
     let expected = model.within(q, u32::MAX)?;
@@ -69,9 +67,7 @@ fn ask_within<I: Index<Element = Card>>(
     q: &Card,
     radius: u32,
     list: &mut [Hit],
-) -> Result<(), Fail>
-    requires { I.sound index.now }
-{
+) -> Result<(), Fail> {
     list.fill(MARK);
     let count = index.within(q, radius, list);
     let expected = model.within(q, radius)?;
@@ -86,10 +82,7 @@ pub fn call_both<I: Index<Element = Card>>(
     model: &mut Model,
     rolls: &mut Rolls,
     list: &mut [Hit],
-) -> Result<(), Fail>
-    requires { I.sound index.old }
-    ensures { I.sound index.new }
-{
+) -> Result<(), Fail> {
     let card = some_card(rolls);
     let (_, _, last) = index.tally();
     let number = (rolls.below(u32::from(last) + 3) % 65536) as u16;

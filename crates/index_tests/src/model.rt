@@ -1,4 +1,5 @@
 // A plain index: a map of samples, of which every query measures and sorts all.
+// This is of an index of cards, and the model of `roadmap_tests` of a roadmap of spots with its edges: so there are two.
 use card::Card;
 use hits::Hit;
 use index::refusal::Refusal;

@@ -1,19 +1,20 @@
 -- The lines of a level file, one after another. Assumes nothing.
 use Rattle.std.proofs.Common.{◌≡◌, ℕ, ◌+◌, ◌<◌, ◌≤◌, true, false, cond, eqb, List, [], ◌∷◌, length, Ok, Err, Result, sym, refl, ap, ◌∙◌}
 use Rattle.std.proofs.lemmas.Bool.{le-leb, lt-leb}
+use Rattle.metric.specs.declared.Metric.{Ghosts as Measured}
 use Rattle.index.specs.Outcomes.{gives, refuses}
 use Rattle.level_theory.specs.Words.{onto, split, words_of, pieces_of}
-use Rattle.level_theory.specs.Levels.{Kind}
 use Rattle.level_theory.specs.Levels.{Level as Meaning}
 use Rattle.level_theory.specs.Reading.{Stage, at_header, at_wall_count, Progress, progress, then_level, read_header, read_line, read_lines, nothing_read, start_reading, reading}
 use Rattle.words.specs.declared.cursor.Misplaced.{Misplaced}
+use Rattle.written.specs.declared.written.Written.{Ghosts}
 use Rattle.lines.specs.Faults.{at_line_of}
 use Rattle.level.specs.declared.reader.Reader.{Reader}
-use Rattle.level.specs.Stages.{line_told, line_read}
+use Rattle.level.specs.Readers.{line_told, line_read}
 
-pub line_at : {E W : Type 0} (kind : Kind) (listed : E → List ℕ) (bounds : W → List ℕ) (line : ℕ) (r : Result Unit Misplaced) (reader : Reader E W) → line_read kind listed bounds (at_line_of line r) reader ≡ line_told line kind listed bounds r reader
-line_at kind listed bounds line (Ok u) reader = refl
-line_at kind listed bounds line (Err m) reader = refl
+pub line_at : {E W : Type 0} {k : Ghosts E W} {m : Measured E} (line : ℕ) (r : Result Unit Misplaced) (reader : Reader E W k m) → line_read (at_line_of line r) reader ≡ line_told line r reader
+line_at line (Ok u) reader = refl
+line_at line (Err misplaced) reader = refl
 
 -- a text has at least one piece, so that a line before it is a whole one
 after_line : (p : Progress) (n : ℕ) (l : List ℕ) (pieces : List (List ℕ)) → Type 0

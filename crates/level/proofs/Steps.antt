@@ -1,20 +1,20 @@
 -- One line of a level file, by the stage at which it is read. Assumes nothing.
-use Rattle.std.proofs.Common.{◌≡◌, ℕ, suc, ◌+◌, ◌-◌, ◌≤◌, Bool, true, false, cond, List, [], ◌∷◌, ◌++◌, get_or, None, Ok, Err, codes, sym, refl, ap, ◌∙◌, arith}
+use Rattle.std.proofs.Common.{◌≡◌, ℕ, suc, ◌+◌, ◌-◌, ◌≤◌, Bool, true, false, cond, List, [], ◌∷◌, ◌++◌, get_or, None, codes, sym, refl, ap, ◌∙◌, arith}
 use Rattle.index.specs.Outcomes.{Outcome, gives, refuses}
 use Rattle.level_theory.specs.Words.{letter, digit, all_bytes, number_word, Want, a_number, Taken, right, wrong, with_number, take_words}
 use Rattle.level_theory.specs.Levels.{Kind, arms, cards, form_of, LineCall}
 use Rattle.level_theory.specs.Levels.{Level as Meaning}
 use Rattle.level_theory.specs.Reading.{Stage, at_wall_count, at_walls, at_call_count, at_calls, walls_left, calls_left, count_wants, no_call, formed, level_with, number_wants, progress, then_call, read_call, read_call_at, read_line}
-use Rattle.words.specs.declared.cursor.Misplaced.{Misplaced}
-use Rattle.words.specs.Tokens.{Word, letters, digits, amiss, word_of, place_of, letters_of, digits_of}
+use Rattle.words.specs.Tokens.{Word, letters, digits, amiss, word_of}
 use Rattle.words.specs.Cursors.{first_word}
 use Rattle.words.proofs.Numbers.{not_digits, no_bytes, letters_no_digits}
 use Rattle.written.specs.Wants.{wall_wants}
 use Rattle.lines.specs.Calls.{sole, named}
-use Rattle.level.specs.declared.reader.Stage as reader
-use Rattle.level.specs.declared.reader.Stage.TheVariants.{WallCount, Walls, CallCount, Calls, End}
-use Rattle.level.specs.Stages.{stage_shown, SomeLeft}
-use Rattle.lines.proofs.Firsts.{of_letters, other_word, letter_word, place_first}
+use Rattle.level.specs.declared.stage.Stage as stage
+use Rattle.level.specs.declared.stage.Stage.TheVariants.{WallCount, Walls, CallCount, Calls, End}
+use Rattle.level.specs.Stages.{stage_shown}
+use Rattle.level.proofs.Rooms.{SomeLeft, more_walls, more_calls}
+use Rattle.lines.proofs.Firsts.{of_letters, other_word, letter_word}
 
 module _ (line : ℕ) (level : Meaning) (ws : List (List ℕ)) (i : ℕ) (one : i ≡ 1) (st : Stage) where
   module _ (e : st ≡ at_wall_count) where
@@ -118,7 +118,7 @@ module _ (line : ℕ) (level : Meaning) (ws : List (List ℕ)) (st : Stage) (t :
   other_call n some e f = call_lacks line level ws 1 refl st n some e 1 (call_first level.kind line ws (ap of_letters (sym first) ∙ f))
 
 -- whether a line that is wanted can begin with such a word; none is wanted at the end
-abbrev pub can_begin : reader.Stage → Word → Bool
+abbrev pub can_begin : stage.Stage → Word → Bool
 can_begin WallCount t = of_letters t
 can_begin (Walls n) t = of_digits t
 can_begin CallCount t = of_letters t
@@ -126,9 +126,9 @@ can_begin (Calls n) t = of_letters t
 can_begin End t = false
 
 -- a line that is wanted, and cannot begin with such a word
-pub cannot_begin : (line : ℕ) (level : Meaning) (ws : List (List ℕ)) (st : reader.Stage) (t : Word) → t ≡ first_word ws 1 → SomeLeft st → (st ≡ End → ⊥) → can_begin st t ≡ false → refuses 8 (line ∷ (1 ∷ [])) ≡ read_line (stage_shown st) line level ws
+pub cannot_begin : (line : ℕ) (level : Meaning) (ws : List (List ℕ)) (st : stage.Stage) (t : Word) → t ≡ first_word ws 1 → SomeLeft st → (st ≡ End → ⊥) → can_begin st t ≡ false → refuses 8 (line ∷ (1 ∷ [])) ≡ read_line (stage_shown st) line level ws
 cannot_begin line level ws WallCount t first s more f = other_wall_count line level ws at_wall_count t first refl f
-cannot_begin line level ws (Walls n) t first s more f = other_wall line level ws (at_walls n) t first n s refl f
+cannot_begin line level ws (Walls n) t first s more f = other_wall line level ws (at_walls n) t first n (more_walls n s) refl f
 cannot_begin line level ws CallCount t first s more f = other_call_count line level ws at_call_count t first refl f
-cannot_begin line level ws (Calls n) t first s more f = other_call line level ws (at_calls n) t first n s refl f
+cannot_begin line level ws (Calls n) t first s more f = other_call line level ws (at_calls n) t first n (more_calls n s) refl f
 cannot_begin line level ws End t first s more f = absurd (more refl)

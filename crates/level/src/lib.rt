@@ -4,6 +4,7 @@
 mod level;
 mod reader;
 mod reading;
+mod stage;
 
 pub use level::{AnyLevel, Level};
 pub use reading::read;

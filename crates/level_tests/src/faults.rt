@@ -30,14 +30,16 @@ fn words_of_line_1(rt: HostRuntime) {
         form(b"arm  2 4 1\n", 1, 2),
         form(b"arm 02 4 1\n", 1, 2),
         form(b"arm 2 x 1\n", 1, 3),
+        form(b"arm 1048577 4 1\n", 1, 2),
         form(b"arm 2 1048577 1\n", 1, 3),
+        form(b"arm 2 4 1048577\n", 1, 4),
         form(b"arm 2 4\n", 1, 4),
         form(b"arm 2 4 1\r\n", 1, 4),
         form(b"arm 2 4 1 \n", 1, 5),
         form(b"card 2 4 1 7\n", 1, 5),
         form(b"arm 2 4 99999999999999999999999\n", 1, 4),
     ];
-    assert_eq!(rt; right, [true; 13]);
+    assert_eq!(rt; right, [true; 15]);
 }
 
 #[test]
@@ -104,10 +106,22 @@ fn words_of_calls(rt: HostRuntime) {
             4,
             2,
         ),
+        form(
+            b"arm 0 0 1\nwalls 0\ncalls 1\nw 1048577 0 0 0 0 0 0\n",
+            4,
+            2,
+        ),
         form(b"arm 0 0 1\nwalls 0\ncalls 1\nw 1 0 0 0 0 0 0 0\n", 4, 9),
+        form(b"arm 0 0 1\nwalls 0\ncalls 1\ni 65536\n", 4, 2),
         form(b"arm 0 0 1\nwalls 0\ncalls 1\ni \n", 4, 2),
+        form(b"arm 0 0 1\nwalls 0\ncalls 1\nr 65536 1\n", 4, 2),
         form(b"arm 0 0 1\nwalls 0\ncalls 1\nr 1 65536\n", 4, 3),
+        form(
+            b"card 0 0 1\nwalls 0\ncalls 1\na 255 0 0 0 0 0 0 256\n",
+            4,
+            9,
+        ),
         form(b"card 0 0 1\nwalls 0\ncalls 2\nd 1 1\nx\n", 4, 3),
     ];
-    assert_eq!(rt; right, [true; 13]);
+    assert_eq!(rt; right, [true; 17]);
 }

@@ -30,10 +30,9 @@ pub fn setting(text: &[u8], value: u32) -> bool {
 }
 
 // How many walls and calls a level has.
-pub fn counts(text: &[u8]) -> (usize, usize) {
-    match read(text) {
-        Ok(AnyLevel::Arms(level)) => (level.walls.len(), level.calls.len()),
-        Ok(AnyLevel::Cards(level)) => (level.walls.len(), level.calls.len()),
-        Err(_) => (0, 0),
+pub fn counts(text: &[u8]) -> Option<(usize, usize)> {
+    match read(text).ok()? {
+        AnyLevel::Arms(level) => Some((level.walls.len(), level.calls.len())),
+        AnyLevel::Cards(level) => Some((level.walls.len(), level.calls.len())),
     }
 }

@@ -70,7 +70,8 @@ fn ends(words: &mut Words) -> Result<(u16, u16), Misplaced>
     Ok((start, goal))
 }
 
-// The words behind the letter of a call. Another word than these letters is wrong, the line's first.
+// The words behind the letter of a call. Another word than these letters is wrong, the line's first. The format has letters
+// for calls, which here become a `CallLine`.
 fn call_words<K: Written>(letter: Option<char>, words: &mut Words) -> Result<CallLine<K>, Misplaced>
     ensures taken { shown_part (call_numbers K.listed) result words.new ≡ call_part (form_of K.kind) (named letter) (words_left words.old) words.old.place }
     ensures called { CallNamed (named letter) result }

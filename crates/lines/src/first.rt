@@ -52,13 +52,14 @@ fn header_words(words: &mut Words) -> Result<(Kind, Asked), Misplaced>
     Ok((kind, asked))
 }
 
-// The settings are looked at once the line has its form.
+// The settings are looked at once the line has its form. That the line is short is a fact of the slice, as at `Words::new`.
 pub fn read_header(line: &[u8]) -> Result<(Kind, Header), ReadFault>
     requires { length line.now ≤ 65536 }
     ensures { header_told result ≡ read_header 1 (words_of line.now) }
 {
     let mut words = Words::new(line);
     let (kind, asked) = at_line(1, header_words(&mut words))?;
+    // Taken apart, since `check_settings` is public and takes three numbers.
     let header = check_settings(asked.degree, asked.bucket, asked.k)?;
     Ok((kind, header))
 }

@@ -1,6 +1,7 @@
 -- The edges that records hold.
 use Rattle.std.specs.Prelude.{◌≡◌, ℕ, ◌+◌, ◌*◌, ◌<◌, ◌≤◌, Bool, false, cond, ◌||◌, List, [], ◌∷◌, ◌++◌, map, length, take, Some, None, filter, Option, ◌==◌, slice_index, slice_index_or}
-use Rattle.std.specs.List.{flat_map, AllByRecursion}
+use Rattle.std.specs.List.{flat_map, AllByRecursion, AllByRecursion-prop}
+use Rattle.std.specs.Coded.{×_prop, Unit-prop, le_prop, Coded-set, coded_ℕ}
 use Rattle.hits.specs.declared.Hit.{Hit}
 use Rattle.chains.specs.declared.Edge.{Edge}
 use Rattle.chains.specs.Edges.{edge, renamed, Inside, Rises}
@@ -28,6 +29,25 @@ pub record Good (links : List Links) : Type 0 where
   pub rises : Rises 0 (numbers links)
   pub sound : AllByRecursion Sound links
   pub few : length links ≤ 1024
+
+pub rises_prop : (low : ℕ) (ns : List ℕ) → IsProp (Rises low ns)
+rises_prop low [] = Unit-prop
+rises_prop low (n ∷ ns) = ×_prop le_prop (rises_prop n ns)
+
+pub sound_prop : (r : Links) → IsProp (Sound r)
+sound_prop r a b i = record {
+  count_bound = le_prop a.count_bound b.count_bound i;
+  places = Coded-set coded_ℕ (length r.elders) 8 a.places b.places i;
+  elder = AllByRecursion-prop (λ h. (h.number < r.number) × (h.distance ≤ 1048576)) (λ h. ×_prop le_prop le_prop) (elders r) a.elder b.elder i;
+}
+
+-- a proof that records are good says nothing more
+pub Good-prop : (links : List Links) → IsProp (Good links)
+Good-prop links a b i = record {
+  rises = rises_prop 0 (numbers links) a.rises b.rises i;
+  sound = AllByRecursion-prop Sound sound_prop links a.sound b.sound i;
+  few = le_prop a.few b.few i;
+}
 
 abbrev pub has : List ℕ → ℕ → Bool
 has [] n = false

@@ -4,7 +4,7 @@
 ghost use Rattle.std.specs.Prelude.{◌≡◌, ◌*◌, ◌<◌, ◌≤◌, map, length, replicate};
 ghost use Rattle.std.specs.List.{AllByRecursion};
 ghost use Rattle.chains.specs.Edges.{Rises};
-ghost use Rattle.links.specs.Records.{numbers, number_at, Good, Resolved, OneMore, Found};
+ghost use Rattle.links.specs.Records.{numbers, number_at, Good, Good-prop, Resolved, OneMore, Found};
 
 use chains::Edge;
 use hits::Hit;
@@ -45,41 +45,56 @@ pub fn find(links: &[Links], number: u16) -> Option<usize>
         .ok()
 }
 
-// Writes the standing edges of one record behind the first `made`, by place. How many there are then.
-fn resolve_one(links: &[Links], at: usize, edges: &mut [Edge], made: usize) -> usize
-    requires good { Good links.now }
-    requires inside { (at < length links.now) × (made ≤ 8 * at) }
-    requires room { 8 * length links.now ≤ length edges.old }
-    ensures { OneMore links.now at edges.old made edges.new result }
-{
-    let record = links[at];
-    // Counted as they are written: an elder that does not stand has no edge.
-    let mut all = made;
-    for elder in &record.elders[..record.count as usize] {
-        if let Some(place) = find(links, elder.number) {
-            edges[all] = Edge {
-                elder: place as u16,
-                younger: at as u16,
-                length: elder.distance,
-            };
-            all += 1;
-        }
-    }
-    all
+// The records of a roadmap as they are lent: by rising number, each sound, as many as samples can stand.
+#[derive(Clone, Copy)]
+pub struct Records<'a> {
+    pub all: &'a [Links],
+    pub ghost good: { Good all.now } by { Good-prop all.now },
 }
 
-// Writes the standing edges of all records, by place. How many they are.
-pub fn resolve(links: &[Links], edges: &mut [Edge]) -> usize
-    requires good { Good links.now }
-    requires room { 8 * length links.now ≤ length edges.old }
-    ensures { Resolved links.now (length links.now) edges.new result }
-{
-    let mut made = 0;
-    // By places, which are what the edges are written by.
-    for at in 0..links.len() {
-        made = resolve_one(links, at, edges, made);
+impl<'a> Records<'a> {
+    // Lent records that are known to be good.
+    pub fn new(all: &'a [Links]) -> Records<'a>
+        requires { Good all.now }
+        ensures { result.all.now ≡ all.now }
+    {
+        Records { all }
     }
-    made
+
+    // Writes the standing edges of one record behind the first `made`, by place. How many there are then.
+    fn resolve_one(&self, at: usize, edges: &mut [Edge], made: usize) -> usize
+        requires inside { (at < length self.now.all.now) × (made ≤ 8 * at) }
+        requires room { 8 * length self.now.all.now ≤ length edges.old }
+        ensures { OneMore self.now.all.now at edges.old made edges.new result }
+    {
+        let record = self.all[at];
+        // Counted as they are written: an elder that does not stand has no edge.
+        let mut all = made;
+        for elder in &record.elders[..record.count as usize] {
+            if let Some(place) = find(self.all, elder.number) {
+                edges[all] = Edge {
+                    elder: place as u16,
+                    younger: at as u16,
+                    length: elder.distance,
+                };
+                all += 1;
+            }
+        }
+        all
+    }
+
+    // Writes the standing edges of all records, by place. How many they are.
+    pub fn resolve(&self, edges: &mut [Edge]) -> usize
+        requires { 8 * length self.now.all.now ≤ length edges.old }
+        ensures { Resolved self.now.all.now (length self.now.all.now) edges.new result }
+    {
+        let mut made = 0;
+        // By places, which are what the edges are written by.
+        for at in 0..self.all.len() {
+            made = self.resolve_one(at, edges, made);
+        }
+        made
+    }
 }
 
 // Turns places into the numbers of the records there.

@@ -35,7 +35,7 @@ impl From<OutputFull> for PlayFault {
     }
 }
 
-// The figure that belongs to a refusal, 0 for one that has none.
+// The figure that belongs to a refusal. Every fault line prints two figures, and 0 for one that is lacking.
 fn figure(refusal: &Refusal) -> usize
     ensures { result ≡ slice_index (figures_of refusal.now) 0 }
 {
@@ -48,7 +48,7 @@ fn figure(refusal: &Refusal) -> usize
 }
 
 impl PlayFault {
-    // The number of the fault and its two figures, 0 for one that it lacks.
+    // The number of the fault and its two figures: 0 is what the line prints for one that is lacking.
     pub fn figures(&self) -> (usize, usize, usize)
         ensures { result ≡ figures_told self.now }
     {

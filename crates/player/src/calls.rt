@@ -1,7 +1,7 @@
 // The calls of a level on a roadmap, each answered by a line in the output.
 ghost use Rattle.std.specs.Prelude.{◌≡◌, ℕ, ◌≤◌, map, length, MatchOption};
 ghost use Rattle.index.specs.Meaning.{fresh};
-ghost use Rattle.roadmap.specs.Roads.{road_of, RoadSound};
+ghost use Rattle.roadmap.specs.Roadmaps.{road_of};
 ghost use Rattle.history_theory.specs.History.{start};
 ghost use Rattle.history.specs.Turns.{lent};
 ghost use Rattle.play_theory.specs.Answering.{set_call, Answered};
@@ -36,7 +36,8 @@ fn call_of<E: Copy, C: Copy>(line: &CallLine<E>, checker: &C) -> Call<E, C>
     }
 }
 
-// Makes one call and writes its line, and returns where it ends.
+// Makes one call and writes its line, and returns where it ends. How long the lists are is a fact of what the caller
+// lends, and they are two parameters, as at `ask`.
 fn answer_call<'a, I: Index + Drop, C: Checker<I::Element>>(
     road: &mut Roadmap<'a, I>,
     call: &Call<I::Element, C>,
@@ -44,10 +45,8 @@ fn answer_call<'a, I: Index + Drop, C: Checker<I::Element>>(
     numbers: &mut [u16],
     out: &mut Output,
 ) -> Option<usize>
-    requires sound { RoadSound I.Index.sound I.Index.meaning road.old }
-    requires few { (length hits.old ≤ 16) × (length numbers.old ≤ 64) }
+    requires { (length hits.old ≤ 16) × (length numbers.old ≤ 64) }
     ensures same_reference { out.new.bytes.ghost_name ≡ out.old.bytes.ghost_name }
-    ensures stays { RoadSound I.Index.sound I.Index.meaning road.new }
     ensures len { MatchOption result (out.new.len ≡ out.old.len) (λ end. out.new.len ≡ end) }
     ensures answers { AnswersOne I.Element.Metric.dist C.Checker.passes (road_of I.Index.meaning road.old) call.now (lent hits.old numbers.old) out.old.bytes.now out.old.len result (lent hits.new numbers.new) out.new.bytes.now (road_of I.Index.meaning road.new) }
 {
@@ -63,7 +62,6 @@ pub fn play_on<I: Index + Drop, C: Checker<I::Element> + Copy>(
     lines: &[CallLine<I::Element>],
     out: &mut [u8],
 ) -> Result<usize, OutputFull>
-    requires sound { I.Index.sound index }
     requires fresh { I.Index.meaning index ≡ fresh 64 }
     requires neighbours { (1 ≤ k) × (k ≤ 8) }
     ensures { Answered I.Element.Metric.dist (start k 64) (map (λ line. set_call C.Checker.passes (line_call line checker)) lines.now) blank_lists 0 0 out.old (told_calls result) out.new }

@@ -1,2 +1,4 @@
 pub mod Roads
 pub mod Calls
+pub mod Roadmaps
+pub mod Unmades

@@ -1,11 +1,13 @@
 // The roadmap: samples in an index, and edges between near ones that a checker passes.
 #![tactic(auto)]
 
-ghost use Rattle.std.specs.Prelude.{◌≡◌, ℕ, ◌+◌, ◌<◌, ◌≤◌, length};
+ghost use Rattle.std.specs.Prelude.{◌≡◌, ℕ, ◌+◌, ◌<◌, ◌≤◌, length, take};
+ghost use Rattle.std.specs.List.{AllByRecursion, AllByRecursion-prop};
 ghost use Rattle.index.specs.Meaning.{Meaning, added};
 ghost use Rattle.index.specs.Outcomes.{told, gives};
 ghost use Rattle.index.specs.Calls.{room_of, drop_outcome, element_outcome, tally_of, near_count, near_outcome, near_hits, near_list, within_count, within_list};
-ghost use Rattle.roadmap.specs.Roads.{road_of, RoadSound, PlaceTold, Made};
+ghost use Rattle.links.specs.Records.{numbers, Sound, sound_prop};
+ghost use Rattle.roadmap.specs.Roads.{sample_numbers};
 ghost use Rattle.roadmap.specs.Calls.{Nearest, LinkedTo, Filled, grow_outcome, grow_leaves, shrink_leaves, IslandTold, RouteTold};
 
 use checker::Checker;
@@ -13,7 +15,7 @@ use graph::{island, route};
 use hits::{Hit, close_up};
 use index::index::Index;
 use index::refusal::{Refusal, room};
-use links::{Links, find};
+use links::{Links, Records, find};
 use metric::Metric;
 
 // Why a roadmap is not made.
@@ -25,19 +27,40 @@ pub enum Unmade {
     TooFewRecords(usize),
 }
 
-// An index, how many neighbours a new sample is tried with, and one edge record for each standing sample,
-// by rising number, the first `used` of those that are lent, so that their count stands beside them.
+impl Unmade {
+    ghost use Rattle.roadmap.specs.Unmades.{refusal_of};
+
+    // The refusal of a neighbour count. Too few records are the caller's mistake, and no refusal of the rules.
+    pub fn refusal(&self) -> Option<Refusal>
+        ensures { result ≡ refusal_of self.now }
+    {
+        match self {
+            Unmade::Setting(k) => Some(Refusal::Setting(*k)),
+            Unmade::TooFewRecords(_) => None,
+        }
+    }
+}
+
+// An index, how many neighbours a new sample is tried with, 1 to 8, and one edge record for each standing sample,
+// by rising number, the first `used` of those that are lent, so that their count stands beside them. At least as
+// many are lent as the index has places.
 #[derive(Drop)]
-pub struct Roadmap<'a, I> {
+pub struct Roadmap<'a, I: Index> {
     index: I,
     k: usize,
     links: &'a mut [Links],
     used: usize,
+    ghost k_low: { 1 ≤ k },
+    ghost k_high: { k ≤ 8 },
+    ghost used_bound: { used ≤ length links.now },
+    ghost room: { (I.Index.meaning index).capacity ≤ length links.now },
+    ghost records: { AllByRecursion Sound (take used links.now) } by { AllByRecursion-prop Sound sound_prop (take used links.now) },
+    ghost numbered: { numbers (take used links.now) ≡ sample_numbers (I.Index.meaning index) },
 }
 
 // The k hits nearest to e, or as many as stand. The list has room for k, so they are not refused.
 fn nearest<I: Index>(index: &I, e: &I::Element, k: usize, hits: &mut [Hit]) -> usize
-    requires { (I.Index.sound index.now) × ((0 < k) × (k ≤ length hits.old)) }
+    requires { (0 < k) × (k ≤ length hits.old) }
     ensures { Nearest I.Element.Metric.dist (I.Index.meaning index.now) e.now k result hits.new }
 {
     index.near(e, k, hits).unwrap_or(0)
@@ -45,8 +68,7 @@ fn nearest<I: Index>(index: &I, e: &I::Element, k: usize, hits: &mut [Hit]) -> u
 
 // Files e. There is room, so it is not refused.
 fn file<I: Index>(index: &mut I, e: I::Element) -> u16
-    requires { (I.Index.sound index.old) × (room_of (I.Index.meaning index.old) ≡ gives tt) }
-    ensures stays { I.Index.sound index.new }
+    requires { room_of (I.Index.meaning index.old) ≡ gives tt }
     ensures number { result ≡ (I.Index.meaning index.old).last + 1 }
     ensures leaves { I.Index.meaning index.new ≡ added (I.Index.meaning index.old) e }
 {
@@ -61,10 +83,11 @@ fn link<I: Index, C: Checker<I::Element>>(
     checker: &C,
     hits: &[Hit],
 ) -> Links
-    requires { (I.Index.sound index.now) × (length hits.now ≤ 8) }
+    requires { length hits.now ≤ 8 }
     ensures { LinkedTo (C.Checker.passes checker.now) e.now (I.Index.meaning index.now) number hits.now result }
 {
     let mut own = Links::unlinked(number);
+    // Counts those that pass, which alone get a place.
     let mut count = 0;
     for hit in hits {
         if let Ok(elder) = index.element(hit.number) {
@@ -80,7 +103,7 @@ fn link<I: Index, C: Checker<I::Element>>(
 
 // A record without edges for each sample that stands. How many there are.
 fn fill_in<I: Index>(index: &I, last: u16, links: &mut [Links]) -> usize
-    requires { (I.Index.sound index.now) × (((I.Index.meaning index.now).last ≡ last) × ((I.Index.meaning index.now).capacity ≤ length links.old)) }
+    requires { ((I.Index.meaning index.now).last ≡ last) × ((I.Index.meaning index.now).capacity ≤ length links.old) }
     ensures { Filled (I.Index.meaning index.now) result links.new }
 {
     let mut used = 0;
@@ -95,11 +118,12 @@ fn fill_in<I: Index>(index: &I, last: u16, links: &mut [Links]) -> usize
 }
 
 impl<'a, I: Index + Drop> Roadmap<'a, I> {
+    ghost use Rattle.roadmap.specs.Roadmaps.{road_of, PlaceTold, Made};
+
     // A roadmap over an index, with edge records that are lent: at least as many as the index has places.
     // Samples that stand already have no edges.
     pub fn new(index: I, k: u32, links: &'a mut [Links]) -> Result<Roadmap<'a, I>, Unmade>
-        requires { I.Index.sound index }
-        ensures { Made I.Index.sound I.Index.meaning index k (length links.old) result }
+        ensures { Made I.Index.meaning index k (length links.old) result }
     {
         if k == 0 || k > 8 {
             return Err(Unmade::Setting(k));
@@ -124,50 +148,52 @@ impl<'a, I: Index + Drop> Roadmap<'a, I> {
         e: I::Element,
         checker: &C,
     ) -> Result<(u16, u8), Refusal>
-        requires { RoadSound I.Index.sound I.Index.meaning self.old }
-        ensures stays { RoadSound I.Index.sound I.Index.meaning self.new }
         ensures answer { told result ≡ grow_outcome I.Element.Metric.dist (C.Checker.passes checker.now) (road_of I.Index.meaning self.old) e }
         ensures leaves { road_of I.Index.meaning self.new ≡ grow_leaves I.Element.Metric.dist (C.Checker.passes checker.now) (road_of I.Index.meaning self.old) e }
     {
         let (capacity, standing, last) = self.index.tally();
         room(capacity, standing, last)?;
+        // An array and how many of it are found, as nothing here may allocate.
         let mut hits = [Hit {
             number: 0,
             distance: 0,
         }; 8];
         let found = nearest(&self.index, &e, self.k, &mut hits);
         let own = link(&self.index, last + 1, &e, checker, &hits[0..found]);
-        let number = file(&mut self.index, e);
+        // Written first, behind the records in use, which still fit the index.
         self.links[self.used] = own;
+        let number = file(&mut self.index, e);
         self.used += 1;
         Ok((number, own.count))
     }
 
     // Takes the sample of this number out, with its edges. No new neighbours are sought.
     pub fn drop(&mut self, number: u16) -> Result<(), Refusal>
-        requires { RoadSound I.Index.sound I.Index.meaning self.old }
-        ensures stays { RoadSound I.Index.sound I.Index.meaning self.new }
         ensures answer { told result ≡ drop_outcome (road_of I.Index.meaning self.old).index number }
         ensures leaves { road_of I.Index.meaning self.new ≡ shrink_leaves (road_of I.Index.meaning self.old) number }
     {
         let at = self.place_of(number)?;
-        let answer = self.index.drop(number);
         close_up(self.links, at, self.used);
         self.used -= 1;
-        answer
+        self.index.drop(number)
+    }
+
+    // The edge records of the samples that stand.
+    fn records(&self) -> Records<'_>
+        ensures { result.all.now ≡ take self.now.used self.now.links.now }
+    {
+        Records::new(&self.links[0..self.used])
     }
 
     // The place of the record of this number.
     fn place_of(&self, number: u16) -> Result<usize, Refusal>
-        requires { RoadSound I.Index.sound I.Index.meaning self.now }
         ensures { PlaceTold I.Index.meaning self.now number result }
     {
-        find(&self.links[0..self.used], number).ok_or(Refusal::NotStanding(number))
+        find(self.records().all, number).ok_or(Refusal::NotStanding(number))
     }
 
     // The element of the sample of this number.
     pub fn element(&self, number: u16) -> Result<I::Element, Refusal>
-        requires { RoadSound I.Index.sound I.Index.meaning self.now }
         ensures { told result ≡ element_outcome (road_of I.Index.meaning self.now).index number }
     {
         self.index.element(number)
@@ -175,7 +201,6 @@ impl<'a, I: Index + Drop> Roadmap<'a, I> {
 
     // The capacity, how many samples stand, and the last number given.
     pub fn tally(&self) -> (usize, usize, u16)
-        requires { RoadSound I.Index.sound I.Index.meaning self.now }
         ensures { result ≡ tally_of (road_of I.Index.meaning self.now).index }
     {
         self.index.tally()
@@ -183,7 +208,6 @@ impl<'a, I: Index + Drop> Roadmap<'a, I> {
 
     // Writes the k hits nearest to the query, or as many as stand, and returns how many.
     pub fn near(&self, q: &I::Element, k: usize, list: &mut [Hit]) -> Result<usize, Refusal>
-        requires { RoadSound I.Index.sound I.Index.meaning self.now }
         ensures answer { told result ≡ near_outcome (road_of I.Index.meaning self.now).index k list.old }
         ensures writes { list.new ≡ near_list I.Element.Metric.dist (road_of I.Index.meaning self.now).index q.now k list.old }
     {
@@ -192,7 +216,6 @@ impl<'a, I: Index + Drop> Roadmap<'a, I> {
 
     // Returns how many samples are at most `radius` away, and writes as many of these hits as the list holds.
     pub fn within(&self, q: &I::Element, radius: u32, list: &mut [Hit]) -> usize
-        requires { RoadSound I.Index.sound I.Index.meaning self.now }
         ensures answer { result ≡ within_count I.Element.Metric.dist (road_of I.Index.meaning self.now).index q.now radius }
         ensures writes { list.new ≡ within_list I.Element.Metric.dist (road_of I.Index.meaning self.now).index q.now radius list.old }
     {
@@ -201,21 +224,19 @@ impl<'a, I: Index + Drop> Roadmap<'a, I> {
 
     // The smallest number that a chain of edges from this sample reaches, itself included.
     pub fn island(&self, number: u16) -> Result<u16, Refusal>
-        requires { RoadSound I.Index.sound I.Index.meaning self.now }
         ensures { IslandTold (road_of I.Index.meaning self.now) number (told result) }
     {
         let at = self.place_of(number)?;
-        Ok(island(&self.links[0..self.used], at))
+        Ok(island(&self.records(), at))
     }
 
     // Writes the numbers of the shortest chain of edges from a to b, of those the one of fewest samples, of those
     // the one with the smaller number at the first place where they differ. Returns its length and count.
     pub fn route(&self, a: u16, b: u16, list: &mut [u16]) -> Result<(u32, u16), Refusal>
-        requires { RoadSound I.Index.sound I.Index.meaning self.now }
         ensures { RouteTold (road_of I.Index.meaning self.now) a b list.old (told result) list.new }
     {
         let start = self.place_of(a)?;
         let goal = self.place_of(b)?;
-        route(&self.links[0..self.used], start, goal, list)
+        route(&self.records(), start, goal, list)
     }
 }

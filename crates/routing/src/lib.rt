@@ -21,7 +21,8 @@ fn step_cost(apart: u32) -> u64
     u64::from(apart) * 65536 + 1
 }
 
-// Lowers the cost at `at` to that by way of `by`, if it is higher. Whether it was.
+// Lowers the cost at `at` to that by way of `by`, if it is higher. Whether it was. Two places and how far apart they are, here
+// and below: an edge is taken either way round.
 fn lower(costs: &mut [u64], at: usize, by: usize, apart: u32) -> bool
     requires { (at < length costs.old) × (by < length costs.old) }
     ensures { Lowered at by apart costs.old result costs.new }
@@ -61,7 +62,8 @@ fn sweep(costs: &mut [u64], edges: &[Edge]) -> bool
     lowered
 }
 
-// Finds for every place the least cost of a chain to the goal.
+// Finds for every place the least cost of a chain to the goal. `Inside` is asked for, as it is of an edge and of how
+// many places there are; the costs are lent beside the edges, to be written here and only read by `walk`.
 pub fn settle(costs: &mut [u64], edges: &[Edge], goal: usize)
     requires { (goal < length costs.old) × (AllByRecursion (Inside (length costs.old)) edges.now) }
     ensures { Settled edges.now goal costs.new }
@@ -90,7 +92,8 @@ fn onward_or(costs: &[u64], at: usize, from: usize, to: usize, apart: u32, best:
     best
 }
 
-// The smallest next place on a chain of least cost from `at`; one above all places stands for none so far.
+// The smallest next place on a chain of least cost from `at`; `costs.len()`, a place that no cost has, stands for none
+// so far, so that a place is always compared with another.
 fn onward(costs: &[u64], edges: &[Edge], at: usize) -> usize
     requires { (at < length costs.now) × (AllByRecursion (Inside (length costs.now)) edges.now) }
     ensures { Onward edges.now costs.now at result }
@@ -114,6 +117,7 @@ pub fn walk(costs: &[u64], edges: &[Edge], start: usize, goal: usize, list: &mut
     ensures { Walked edges.now costs.now start goal list.old list.new }
 {
     let mut at = start;
+    // Counts the places of the lent list while the chain is followed, which no list holds yet.
     let mut written = 0;
     while costs[at] > 0 {
         list[written] = at as u16;
@@ -123,7 +127,7 @@ pub fn walk(costs: &[u64], edges: &[Edge], start: usize, goal: usize, list: &mut
     list[written] = at as u16;
 }
 
-// The first place that has a cost.
+// The first place that has a cost; `costs.len()`, a place that no cost has, stands for none.
 pub fn first(costs: &[u64]) -> usize
     ensures { First costs.now result }
 {

@@ -21,20 +21,20 @@ use Rattle.index.proofs.Standing.{rising_push, rising_wider, rising_without}
 use Rattle.scan.specs.declared.rows.Row.{Row}
 use Rattle.scan.specs.declared.scan.Scan.{Scan}
 use Rattle.scan.specs.Rows.{sample_of, samples, Found}
-use Rattle.scan.specs.Scans.{scan_meaning, ScanSound, HoldsNumberAt, PlaceTold}
+use Rattle.scan.specs.Scans.{scan_meaning, HoldsNumberAt, PlaceTold}
 use Rattle.scan.proofs.Closing.{found_first, element_here, stands_here, taken_out}
 
-module _ {E : Type 0} (s : Scan E) (o : ScanSound s) where
+module _ {E : Type 0} (s : Scan E) where
   -- as many samples stand as rows are in use
   pub standing_count : length (scan_meaning s).standing ≡ s.used
-  standing_count = simp (length-map, length-take) (omega (arith, o.used_bound))
+  standing_count = simp (length-map, length-take) (omega (arith, s.used_bound))
 
   -- whether one more sample can be filed
   pub room_is : (capacity : ℕ) → capacity ≡ (scan_meaning s).capacity → room_outcome capacity s.used s.last ≡ room_of (scan_meaning s)
   room_is capacity e = ap (λ k. room_outcome k s.used s.last) e ∙ ap (λ n. room_outcome (scan_meaning s).capacity n s.last) (sym standing_count)
 
   rows_rise : Rising 0 65535 (scan_meaning s).standing
-  rows_rise = rising_wider 0 s.last 0 65535 (scan_meaning s).standing (omega arith) o.last_bound o.rising
+  rows_rise = rising_wider 0 s.last 0 65535 (scan_meaning s).standing (omega arith) s.last_bound s.rising
 
   -- the part of the rows that is in use, as it is lent
   pub lent : take (s.used - 0) s.rows.now ≡ take s.used s.rows.now
@@ -44,11 +44,11 @@ module _ {E : Type 0} (s : Scan E) (o : ScanSound s) where
   lent_rise = subst (λ z. Rising 0 65535 (samples z)) (sym lent) rows_rise
 
   pub ranked : (dist : E → E → ℕ) (q : E) → Ranked dist q (scan_meaning s).standing (hits dist q (scan_meaning s).standing)
-  ranked dist q = hits_ranked dist q 0 s.last (scan_meaning s).standing o.rising
+  ranked dist q = hits_ranked dist q 0 s.last (scan_meaning s).standing s.rising
 
 -- where the sample n is, as a call tells it
-pub place_told : {E : Type 0} (s : Scan E) (o : ScanSound s) (n : ℕ) (place : Option ℕ) (told : Result ℕ Refusal) → place ≡ position (λ row. row.number == n) (take (s.used - 0) s.rows.now) → told ≡ ok_or place (NotStanding n) → PlaceTold s n told
-place_told {E} s o n place told e f = subst (PlaceTold s n) (sym f) (either place (subst (λ rows. Found n rows place) (lent s o) (found_first n (take (s.used - 0) s.rows.now) place e)))
+pub place_told : {E : Type 0} (s : Scan E) (n : ℕ) (place : Option ℕ) (told : Result ℕ Refusal) → place ≡ position (λ row. row.number == n) (take (s.used - 0) s.rows.now) → told ≡ ok_or place (NotStanding n) → PlaceTold s n told
+place_told {E} s n place told e f = subst (PlaceTold s n) (sym f) (either place (subst (λ rows. Found n rows place) (lent s) (found_first n (take (s.used - 0) s.rows.now) place e)))
   where
     either : (place : Option ℕ) → HoldsNumberAt s n place → PlaceTold s n (ok_or place (NotStanding n))
     either None h = (refl, h)
@@ -71,9 +71,9 @@ abbrev pub rows_mean : {E : Type 0} → List (Row E) → ℕ → ℕ → Meaning
 rows_mean rows used last = record { capacity = min (length rows) 1024; last = last; standing = samples (take used rows) }
 
 -- the state after one more row is written
-module _ {E : Type 0} (s : Scan E) (o : ScanSound s) (e : E) (room : s.used ≡ (scan_meaning s).capacity → ⊥) (rows : List (Row E)) (filed : rows ≡ set s.rows.now s.used (record { number = s.last + 1; element = e })) where
+module _ {E : Type 0} (s : Scan E) (e : E) (room : s.used ≡ (scan_meaning s).capacity → ⊥) (rows : List (Row E)) (filed : rows ≡ set s.rows.now s.used (record { number = s.last + 1; element = e })) where
   free : s.used < min (length s.rows.now) 1024
-  free = omega (arith, o.used_bound)
+  free = omega (arith, s.used_bound)
 
   same_length : length rows ≡ length s.rows.now
   same_length = ap length filed ∙ length-set s.rows.now s.used (record { number = s.last + 1; element = e })
@@ -84,28 +84,26 @@ module _ {E : Type 0} (s : Scan E) (o : ScanSound s) (e : E) (room : s.used ≡ 
   pub add_means : rows_mean rows (s.used + 1) (s.last + 1) ≡ added (scan_meaning s) e
   add_means = λ i. record { capacity = min (same_length i) 1024; last = s.last + 1; standing = one_more i }
 
-  pub add_sound : (s.last ≡ 65535 → ⊥) → (t : Scan E) → t.rows.now ≡ rows → t.used ≡ s.used + 1 → t.last ≡ s.last + 1 → ScanSound t
-  add_sound more t is used last = record {
-    used_bound = omega (arith, free, same_length, ap length is, used);
-    last_bound = omega (arith, o.last_bound, last);
-    rising = subst (Rising 0 t.last) (sym (ap (λ k. samples (take k t.rows.now)) used ∙ (ap (λ z. samples (take (s.used + 1) z)) is ∙ one_more)))
-        (rising_push 0 s.last t.last (scan_meaning s).standing (record { number = s.last + 1; element = e }) (omega arith) (omega arith) (omega (arith, last)) o.rising);
-  }
+  pub add_used : s.used + 1 ≤ min (length rows) 1024
+  add_used = omega (arith, free, same_length)
+
+  pub add_rising : Rising 0 (s.last + 1) (samples (take (s.used + 1) rows))
+  add_rising = subst (Rising 0 (s.last + 1)) (sym one_more) (rising_push 0 s.last (s.last + 1) (scan_meaning s).standing (record { number = s.last + 1; element = e }) (omega arith) (omega arith) (omega arith) s.rising)
 
 -- a row in use that holds the sample n
-module _ {E : Type 0} (s : Scan E) (o : ScanSound s) (n at : ℕ) (here : (at < length (take s.used s.rows.now)) × HoldsAt (λ row. row.number ≡ n) (take s.used s.rows.now) at) where
+module _ {E : Type 0} (s : Scan E) (n at : ℕ) (here : (at < length (take s.used s.rows.now)) × HoldsAt (λ row. row.number ≡ n) (take s.used s.rows.now) at) where
   in_use : at < s.used
   in_use = omega (arith, here.0, length-take s.used s.rows.now)
 
   in_rows : s.used ≤ length s.rows.now
-  in_rows = omega (arith, o.used_bound)
+  in_rows = omega (arith, s.used_bound)
 
   pub stands : (e : E) × (element_at n (scan_meaning s).standing ≡ Some e)
-  stands = stands_here n 0 s.last (take s.used s.rows.now) at here.0 o.rising here.1
+  stands = stands_here n 0 s.last (take s.used s.rows.now) at here.0 s.rising here.1
 
   pub found_element : (d : Row E) → element_at n (scan_meaning s).standing ≡ Some (get_or s.rows.now at d).element
   found_element d =
-      element_here n 0 s.last (take s.used s.rows.now) at (get_or s.rows.now at d).element here.0 o.rising here.1
+      element_here n 0 s.last (take s.used s.rows.now) at (get_or s.rows.now at d).element here.0 s.rising here.1
       (λ c. ap (λ row. row.element) (get_or_default s.rows.now at d c (omega (arith, in_use, in_rows)) ∙ sym (get_or-take s.used s.rows.now at c in_use)))
 
   -- the state after that row is taken out
@@ -117,18 +115,16 @@ module _ {E : Type 0} (s : Scan E) (o : ScanSound s) (n at : ℕ) (here : (at < 
     one_less =
         ap (λ z. samples (take (s.used - 1) z)) moved
         ∙ (ap samples (closed_front at s.used s.rows.now in_use in_rows)
-        ∙ taken_out n 0 s.last (take s.used s.rows.now) at here.0 o.rising here.1)
+        ∙ taken_out n 0 s.last (take s.used s.rows.now) at here.0 s.rising here.1)
 
     pub drop_means : rows_mean rows (s.used - 1) s.last ≡ dropped (scan_meaning s) n
     drop_means = λ i. record { capacity = min (as_long i) 1024; last = s.last; standing = one_less i }
 
-    pub drop_sound : (t : Scan E) → t.rows.now ≡ rows → t.used ≡ s.used - 1 → t.last ≡ s.last → ScanSound t
-    drop_sound t is used last = record {
-      used_bound = omega (arith, o.used_bound, as_long, ap length is, used);
-      last_bound = omega (arith, o.last_bound, last);
-      rising = subst (Rising 0 t.last) (sym (ap (λ k. samples (take k t.rows.now)) used ∙ (ap (λ z. samples (take (s.used - 1) z)) is ∙ one_less)))
-          (rising_wider 0 s.last 0 t.last (without n (scan_meaning s).standing) (omega arith) (omega (arith, last)) (rising_without n 0 s.last (scan_meaning s).standing o.rising));
-    }
+    pub drop_used : s.used - 1 ≤ min (length rows) 1024
+    drop_used = omega (arith, s.used_bound, as_long)
+
+    pub drop_rising : Rising 0 s.last (samples (take (s.used - 1) rows))
+    drop_rising = subst (Rising 0 s.last) (sym one_less) (rising_without n 0 s.last (scan_meaning s).standing s.rising)
 
 -- near asks for the hits at any distance, of which a part of the list keeps the first k; `ys` and `j` are the samples and
 -- the part's length as they are lent

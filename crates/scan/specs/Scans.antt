@@ -1,22 +1,17 @@
--- What a scan means, and which of its states are sound.
+-- What a scan means, and that this is lawful.
 use Rattle.std.specs.Prelude.{◌≡◌, ℕ, ◌≤◌, min, length, take, Some, None, Option, Ok, Err, Result}
-use Rattle.std.proofs.Common.{arith, length-take}
+use Rattle.std.proofs.Common.{sym, ◌∙◌, subst, length-take}
+use Rattle.std.proofs.Math.Nat.{min-le_left, min-le_right, le_trans}
 use Rattle.std.proofs.lemmas.List.{length-map}
-use Rattle.hits.specs.Samples.{Rising}
 use Rattle.index.specs.declared.refusal.Refusal.{Refusal}
 use Rattle.index.specs.declared.refusal.Refusal.TheVariants.{NotStanding}
 use Rattle.index.specs.Meaning.{Meaning, Lawful}
 use Rattle.scan.specs.declared.scan.Scan.{Scan}
-use Rattle.scan.specs.Rows.{samples, Found}
+use Rattle.scan.specs.Rows.{sample_of, samples, Found}
 
 module _ {E : Type 0} where
   abbrev pub scan_meaning : Scan E → Meaning E
   scan_meaning s = record { capacity = min (length s.rows.now) 1024; last = s.last; standing = samples (take s.used s.rows.now) }
-
-  pub record ScanSound (s : Scan E) : Type 0 where
-    pub used_bound : s.used ≤ min (length s.rows.now) 1024
-    pub last_bound : s.last ≤ 65535
-    pub rising : Rising 0 s.last (samples (take s.used s.rows.now))
 
   -- where a sample is among the rows in use
   abbrev pub HoldsNumberAt : Scan E → ℕ → Option ℕ → Type 0
@@ -27,10 +22,13 @@ module _ {E : Type 0} where
   PlaceTold s n (Ok at) = HoldsNumberAt s n (Some at)
   PlaceTold s n (Err refusal) = (refusal ≡ NotStanding n) × HoldsNumberAt s n None
 
-  pub scan_lawful : (s : Scan E) → ScanSound s → Lawful (scan_meaning s)
-  scan_lawful s o = record {
-    capacity_bound = omega arith;
-    last_bound = o.last_bound;
-    rising = o.rising;
-    room = simp (length-map, length-take) (omega arith);
-  }
+  pub scan_lawful : (s : Scan E) → Lawful (scan_meaning s)
+  scan_lawful s =
+      let rows = s.rows.now in
+      let count = length-map (take s.used rows) sample_of ∙ length-take s.used rows in
+      record {
+        capacity_bound = min-le_right (length rows) 1024;
+        last_bound = s.last_bound;
+        rising = s.rising;
+        room = subst (λ n. n ≤ min (length rows) 1024) (sym count) (le_trans (min-le_left s.used (length rows)) s.used_bound);
+      }

@@ -1,7 +1,8 @@
 // The scan as an index.
-ghost use Rattle.std.specs.Prelude.{◌≡◌, ℕ, min, length};
+ghost use Rattle.std.specs.Prelude.{◌≡◌, ◌≤◌, ℕ, min, length, take};
+ghost use Rattle.hits.specs.Samples.{Rising, Rising-prop};
 ghost use Rattle.index.specs.Meaning.{fresh};
-ghost use Rattle.scan.specs.Scans.{scan_meaning, ScanSound, scan_lawful, PlaceTold};
+ghost use Rattle.scan.specs.Rows.{samples};
 
 use crate::rows::{Row, find, gather};
 use hits::{Hit, close_up};
@@ -16,13 +17,17 @@ pub struct Scan<'a, E> {
     rows: &'a mut [Row<E>],
     used: usize,
     last: u16,
+    ghost used_bound: { used ≤ min (length rows.now) 1024 },
+    ghost last_bound: { last ≤ 65535 },
+    ghost rising: { Rising 0 last (samples (take used rows.now)) } by { Rising-prop 0 last (samples (take used rows.now)) },
 }
 
 impl<'a, E: Metric> Scan<'a, E> {
+    ghost use Rattle.scan.specs.Scans.{scan_meaning, PlaceTold};
+
     // An index over the rows that are lent, of which it uses at most 1,024.
     pub fn new(rows: &'a mut [Row<E>]) -> Scan<'a, E>
-        ensures sound { ScanSound result }
-        ensures fresh { scan_meaning result ≡ fresh (min (length rows.old) 1024) }
+        ensures { scan_meaning result ≡ fresh (min (length rows.old) 1024) }
     {
         Scan {
             rows,
@@ -39,7 +44,6 @@ impl<'a, E: Metric> Scan<'a, E> {
 
     // The place of the row that holds the sample of this number.
     fn place_of(&self, number: u16) -> Result<usize, Refusal>
-        requires { ScanSound self.now }
         ensures { PlaceTold self.now number result }
     {
         find(&self.rows[0..self.used], number).ok_or(Refusal::NotStanding(number))
@@ -47,11 +51,11 @@ impl<'a, E: Metric> Scan<'a, E> {
 }
 
 impl<'a, E: Metric> Index for Scan<'a, E> {
+    ghost use Rattle.scan.specs.Scans.{scan_meaning, scan_lawful};
+
     type Element = E;
 
     ghost meaning = { scan_meaning };
-
-    ghost sound = { ScanSound };
 
     ghost lawful = { scan_lawful };
 

@@ -15,8 +15,6 @@ pub fn tell_refusal(rt: &HostRuntime, refusal: Refusal) -> io::Result<()> {
 pub fn tell_add<I: Index>(rt: &HostRuntime, index: &mut I, e: I::Element) -> io::Result<()>
 where
     I::Element: Debug,
-    requires { I.sound index.old }
-    ensures { I.sound index.new }
 {
     print!(rt; "  add {e:?}: ")?;
     match index.add(e) {
@@ -25,10 +23,7 @@ where
     }
 }
 
-pub fn tell_drop<I: Index>(rt: &HostRuntime, index: &mut I, number: u16) -> io::Result<()>
-    requires { I.sound index.old }
-    ensures { I.sound index.new }
-{
+pub fn tell_drop<I: Index>(rt: &HostRuntime, index: &mut I, number: u16) -> io::Result<()> {
     print!(rt; "  drop {number}: ")?;
     match index.drop(number) {
         Ok(()) => println!(rt; "taken out"),
@@ -39,7 +34,6 @@ pub fn tell_drop<I: Index>(rt: &HostRuntime, index: &mut I, number: u16) -> io::
 pub fn tell_element<I: Index>(rt: &HostRuntime, index: &I, number: u16) -> io::Result<()>
 where
     I::Element: Debug,
-    requires { I.sound index.now }
 {
     print!(rt; "  element {number}: ")?;
     match index.element(number) {
@@ -48,9 +42,7 @@ where
     }
 }
 
-pub fn tell_tally<I: Index>(rt: &HostRuntime, index: &I) -> io::Result<()>
-    requires { I.sound index.now }
-{
+pub fn tell_tally<I: Index>(rt: &HostRuntime, index: &I) -> io::Result<()> {
     let (capacity, standing, last) = index.tally();
     println!(rt; "  tally: capacity {capacity}, {standing} standing, last number {last}")
 }
@@ -73,7 +65,6 @@ pub fn tell_near<I: Index>(
 ) -> io::Result<()>
 where
     I::Element: Debug,
-    requires { I.sound index.now }
 {
     print!(rt; "  the {k} nearest to {q:?}: ")?;
     match index.near(q, k, list) {
@@ -97,7 +88,6 @@ pub fn tell_within<I: Index>(
 ) -> io::Result<()>
 where
     I::Element: Debug,
-    requires { I.sound index.now }
 {
     let found = index.within(q, radius, list);
     let written = found.min(list.len());

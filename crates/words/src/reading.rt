@@ -10,7 +10,8 @@ use crate::digits::value_of;
 use crate::token::Token;
 
 impl<'a> Words<'a> {
-    // All words of a line.
+    // All words of a line. That it is short is a fact of the slice, which goes from the whole text down to its parts: a
+    // type round it would be taken off again for each call of std's.
     pub fn new(line: &'a [u8]) -> Words<'a>
         requires { length line.now ≤ 65536 }
         ensures left { words_left result ≡ words_of line.now }

@@ -1,10 +1,10 @@
-use Rattle.std.proofs.Common.{arith}
+use Rattle.std.proofs.Common.{refl, arith}
 use Rattle.gnat_search.proofs.Visiting.{none_pending, root_visited, next_within, next_shown, next_pause, next_less, search_ends}
 use Rattle.gnat_search.proofs.search.Goals as goal
 
 pub loop-at-init : goal.loop-at-init
 loop-at-init g c =
-    root_visited c.args.rows.now g.E.Metric.dist c.args.q.now c.args.aim c.args.root.now c.args.list.now c.requires c.new-pending.result.items c.visit-so_far.new.pending.items c.visit-so_far.new.list c.visit-so_far.result c.new-pending.ensures c.visit-so_far.ensures.counts c.visit-so_far.ensures.keeps
+    root_visited c.args.rows.now g.E.Metric.dist c.args.q.now c.args.aim c.args.root.now c.args.list.now _ (refl, (refl, refl)) c.requires c.new-pending.result.items c.visit-so_far.new.pending.items c.visit-so_far.new.list c.visit-so_far.result c.new-pending.ensures c.visit-so_far.ensures.counts c.visit-so_far.ensures.keeps
 
 pub offset_bounds-rows-at : goal.offset_bounds-rows-at
 offset_bounds-rows-at g c = omega (arith, next_within c.args.rows.now g.E.Metric.dist c.args.q.now c.args.aim c.args.root.now c.args.list.now c.loop-at.list c.loop-at.so_far c.loop-at.pending.items c.pop.new.self.items c.in-Some.at c.in-Some.ensures.items c.loop-at.invariant)

@@ -25,7 +25,7 @@ loop-hit-preserved g c =
     elim c.match-element.branch [
       | in-Ok+then-check w ↦
           let x = element_some m h.number w.in-Ok.elder w.in-Ok.ensures in
-          so_far_as p e m n hits (i + 1) _ _ _ _ w.own-is w.count-is (link_more p e m n hits i own count c.loop-hit.invariant l h is (omega (arith, c.loop-hit.invariant.few, c.requires.1)) (ap (passes_with p e) x ∙ (sym w.check.ensures ∙ w.if-check.true)))
+          so_far_as p e m n hits (i + 1) _ _ _ _ w.own-is w.count-is (link_more p e m n hits i own count c.loop-hit.invariant l h is (omega (arith, c.loop-hit.invariant.few, c.requires)) (ap (passes_with p e) x ∙ (sym w.check.ensures ∙ w.if-check.true)))
       | in-Ok+else-check w ↦
           let x = element_some m h.number w.in-Ok.elder w.in-Ok.ensures in
           so_far_as p e m n hits (i + 1) _ _ _ _ w.own-is w.count-is (link_not p e m n hits i own count c.loop-hit.invariant l h is (ap (passes_with p e) x ∙ (sym w.check.ensures ∙ w.if-check.false)))

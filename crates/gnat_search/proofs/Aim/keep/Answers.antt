@@ -1,14 +1,20 @@
-use Rattle.std.proofs.Common.{◌+◌, length, sym, subst}
-use Rattle.gnat_search.specs.Wants.{want, Kept, counted_in}
-use Rattle.gnat_search.proofs.Keeping.{near_kept, within_kept}
+use Rattle.std.proofs.Common.{ap, ◌∙◌}
+use Rattle.gnat_search.proofs.Keeping.{near_kept, within_kept, outside_kept}
 use Rattle.gnat_search.proofs.Aim.keep.Goals as goal
+use Rattle.gnat_search.proofs.Aim.keep.Goals.{in-Nearest, in-Within+then-hit-radius, in-Within+else-hit-radius}
 
-pub returns-in-Nearest-clause-keeps : goal.returns-in-Nearest-clause-keeps
-returns-in-Nearest-clause-keeps c = λ old st k.
-    subst (λ a. Kept old c.place-held.new.list (record { found = c.place-held.result; held = c.place-held.result; measured = c.args.so_far.measured + 1 }) (counted_in (want a (length c.args.list.now)) c.args.hit st)) (sym c.in-Nearest.is)
-    (near_kept old c.args.list.now c.args.so_far st k c.args.hit c.place-held.result c.place-held.new.list c.place-held.ensures.kept c.place-held.ensures.ties)
-
-pub returns-then-hit-radius-clause-keeps : goal.returns-then-hit-radius-clause-keeps
-returns-then-hit-radius-clause-keeps c = λ old st k.
-    subst (λ a. Kept old c.place-held-then-hit-radius.new.list (record { found = c.args.so_far.found + 1; held = c.place-held-then-hit-radius.result; measured = c.args.so_far.measured + 1 }) (counted_in (want a (length c.args.list.now)) c.args.hit st)) (sym c.in-Within.is)
-    (within_kept old c.args.list.now c.args.so_far st k c.args.hit c.place-held-then-hit-radius.result c.place-held-then-hit-radius.new.list c.place-held-then-hit-radius.ensures.kept c.place-held-then-hit-radius.ensures.ties c.in-Within.radius c.if-hit-radius.true)
+pub returns-clause-keeps : goal.returns-clause-keeps
+returns-clause-keeps c = λ old st k.
+    let list = c.args.list.now in
+    let so_far = c.args.so_far in
+    let new = c.match-self.list in
+    elim c.match-self.branch [
+      | in-Nearest w ↦
+          let placed = w.place-held in
+          near_kept old list so_far st k c.args.hit placed.result new placed.ensures.kept (λ s. w.list-is ∙ placed.ensures.ties s) c.args.self _ (ap (λ z. z.1.0) w.result-is) (ap (λ z. z.1.1.0) w.result-is) w.in-Nearest.is (ap (λ z. z.0) w.result-is)
+      | in-Within+then-hit-radius w ↦
+          let placed = w.place-held-then-hit-radius in
+          within_kept old list so_far st k c.args.hit placed.result new placed.ensures.kept (λ s. w.list-is ∙ placed.ensures.ties s) c.args.self _ (ap (λ z. z.1.0) w.result-is) (ap (λ z. z.1.1.0) w.result-is) w.in-Within.radius w.in-Within.is w.if-hit-radius.true (ap (λ z. z.0) w.result-is)
+      | in-Within+else-hit-radius w ↦
+          outside_kept old list so_far st k c.args.hit new c.args.self _ w.in-Within.radius w.in-Within.is w.if-hit-radius.false w.list-is (ap (λ z. z.0) w.result-is) (ap (λ z. z.1.0) w.result-is) (ap (λ z. z.1.1.0) w.result-is)
+    ]

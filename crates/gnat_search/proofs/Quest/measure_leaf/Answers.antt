@@ -32,7 +32,7 @@ loop-at-preserved g c =
     let row = get_or rows at c.index-self-at.result in
     let there : slice_get rows at ≡ Some row = slice_get-get_or rows at c.index-self-at.result (in_range rows leaf i c.requires.shown c.loop-at-test.true) in
     let call = c.measure_row-so_far in (
-      record { shown = call.ensures.counts.shown; few = call.ensures.counts.few; most = omega (arith, call.ensures.counts.most, c.loop-at.invariant.0.most) },
+      omega (arith, call.ensures.counts, c.loop-at.invariant.0),
       λ xs h old st k.
           let w = want aim (length c.args.list.now) in
           let before = measure_all dist q w (take i xs) st in

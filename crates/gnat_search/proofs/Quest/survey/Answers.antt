@@ -20,7 +20,7 @@ no_flags (suc n) (suc j) = no_flags n j
 pub loop-i-init : goal.loop-i-init
 loop-i-init g c = (
   refl,
-  record { shown = c.requires.room.shown; few = c.requires.room.few; most = omega arith },
+  omega arith,
   λ ps fs n s old st k. none_surveyed c.args.self.now.rows.now g.E.Metric.dist c.args.self.now.q.now (want c.args.self.now.aim (length c.args.list.now)) c.args.branch.now ps st old fs (replicate 8 false) c.args.list.now c.args.so_far n s (no_flags 8) k,
 )
 
@@ -63,7 +63,7 @@ loop-i-preserved g c =
           let far : s.distance-distance.result ≡ dist q row.element = s.distance-distance.ensures in
           let long : length s.count_pivot-counted.new.list ≡ length c.args.list.now = s.count_pivot-counted.auto.list ∙ c.loop-i.auto.list in (
             ap length s.struck-is ∙ (let ok = s.strike-struck.type_inv in search rules),
-            subst (λ z. Counted c.args.so_far z (i + 1)) (sym s.so_far-is) (record { shown = counted.counts.shown; few = counted.counts.few; most = omega (arith, counted.counts.most, c.loop-i.invariant.1.most) }),
+            subst (λ z. Counted c.args.so_far z (i + 1)) (sym s.so_far-is) (omega (arith, counted.counts, c.loop-i.invariant.1)),
             (λ ps fs n t old st k.
                 surveyed_as rows dist q w b ps st old (i + 1) s.strike-struck.result c.if-not-struck-i.struck s.count_pivot-counted.new.list c.if-not-struck-i.list s.count_pivot-counted.result c.if-not-struck-i.so_far s.struck-is s.list-is s.so_far-is
                 (seen_surveyed rows dist q w b ps st old i c.loop-i.struck c.loop-i.list c.loop-i.so_far is.0 row s.distance-distance.result s.reach-within.result s.strike-struck.result s.count_pivot-counted.new.list s.count_pivot-counted.result
@@ -75,7 +75,7 @@ loop-i-preserved g c =
           )
       | else-not-struck-i s ↦ (
         ap length s.struck-is ∙ c.loop-i.invariant.0,
-        subst (λ z. Counted c.args.so_far z (i + 1)) (sym s.so_far-is) (record { shown = c.loop-i.invariant.1.shown; few = c.loop-i.invariant.1.few; most = omega (arith, c.loop-i.invariant.1.most) }),
+        subst (λ z. Counted c.args.so_far z (i + 1)) (sym s.so_far-is) (omega (arith, c.loop-i.invariant.1)),
         (λ ps fs n t old st k.
             surveyed_as rows dist q w b ps st old (i + 1) c.loop-i.struck c.if-not-struck-i.struck c.loop-i.list c.if-not-struck-i.list c.loop-i.so_far c.if-not-struck-i.so_far s.struck-is s.list-is s.so_far-is
             (struck_surveyed rows dist q w b ps st old i c.loop-i.struck c.loop-i.list c.loop-i.so_far is.0 s.if-not-struck-i.false (c.loop-i.invariant.2 ps fs n t old st k))),

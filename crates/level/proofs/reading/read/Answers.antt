@@ -1,14 +1,9 @@
 use Rattle.std.proofs.Common.{sym, ap, ◌∙◌}
 use Rattle.std.proofs.lemmas.Result.{err_from_is_err_and}
-use Rattle.level_theory.specs.Levels.{arms, cards}
 use Rattle.level_theory.specs.Reading.{header_level}
-use Rattle.written.specs.Arms.{arm_numbers}
-use Rattle.written.specs.Arms as arm_walls
-use Rattle.written.specs.Cards.{card_numbers}
-use Rattle.written.specs.Cards as card_walls
 use Rattle.lines.specs.Settings.{header_numbers}
 use Rattle.lines.specs.Headers.{kind_shown}
-use Rattle.level.specs.Levels.{level_shown}
+use Rattle.level.specs.Readers.{level_read}
 use Rattle.level.specs.Stages.{stage_shown}
 use Rattle.level.proofs.Files.{reading_long, no_line, header_stops, header_goes}
 use Rattle.level.proofs.reading.read.Goals as goal
@@ -27,15 +22,15 @@ returns-in_err-kind c =
 pub returns-in_err-read_rest-in-Arms : goal.returns-in_err-read_rest-in-Arms
 returns-in_err-read_rest-in-Arms c =
     let p = err_from_is_err_and c.from_residual-in_err-read_rest-in-Arms.result c.from_residual-in_err-read_rest-in-Arms.ensures.1 in
-    rw (p.1, p.2) (c.in_err-read_rest-in-Arms.ensures.told ∙ header_goes c.args.bytes.now c.if-bytes-gt65536.false c.in-Some.line.now c.in-Some.rest.now c.in-Some.ensures.0 (header_level (kind_shown c.in_ok-kind.kind) (header_numbers c.in_ok-kind.header)) (stage_shown c.start-reader.result.stage) (level_shown arms arm_numbers arm_walls.wall_numbers c.start-reader.result.level) c.in_ok-kind.ensures (ap stage_shown c.start-reader.ensures.stage) (c.start-reader.ensures.level ∙ ap (λ k. header_level (kind_shown k) (header_numbers c.in_ok-kind.header)) (sym c.in-Arms.is)))
+    rw (p.1, p.2) (c.in_err-read_rest-in-Arms.ensures ∙ header_goes c.args.bytes.now c.if-bytes-gt65536.false c.in-Some.line.now c.in-Some.rest.now c.in-Some.ensures.0 (header_level (kind_shown c.in_ok-kind.kind) (header_numbers c.in_ok-kind.header)) (stage_shown c.start-reader.result.stage) (level_read c.start-reader.result) c.in_ok-kind.ensures (ap stage_shown c.start-reader.ensures.stage) (c.start-reader.ensures.level ∙ ap (λ k. header_level (kind_shown k) (header_numbers c.in_ok-kind.header)) (sym c.in-Arms.is)))
 
 pub returns-in_ok-read_rest-in-Arms : goal.returns-in_ok-read_rest-in-Arms
-returns-in_ok-read_rest-in-Arms c = c.in_ok-read_rest-in-Arms.ensures.told ∙ header_goes c.args.bytes.now c.if-bytes-gt65536.false c.in-Some.line.now c.in-Some.rest.now c.in-Some.ensures.0 (header_level (kind_shown c.in_ok-kind.kind) (header_numbers c.in_ok-kind.header)) (stage_shown c.start-reader.result.stage) (level_shown arms arm_numbers arm_walls.wall_numbers c.start-reader.result.level) c.in_ok-kind.ensures (ap stage_shown c.start-reader.ensures.stage) (c.start-reader.ensures.level ∙ ap (λ k. header_level (kind_shown k) (header_numbers c.in_ok-kind.header)) (sym c.in-Arms.is))
+returns-in_ok-read_rest-in-Arms c = c.in_ok-read_rest-in-Arms.ensures ∙ header_goes c.args.bytes.now c.if-bytes-gt65536.false c.in-Some.line.now c.in-Some.rest.now c.in-Some.ensures.0 (header_level (kind_shown c.in_ok-kind.kind) (header_numbers c.in_ok-kind.header)) (stage_shown c.start-reader.result.stage) (level_read c.start-reader.result) c.in_ok-kind.ensures (ap stage_shown c.start-reader.ensures.stage) (c.start-reader.ensures.level ∙ ap (λ k. header_level (kind_shown k) (header_numbers c.in_ok-kind.header)) (sym c.in-Arms.is))
 
 pub returns-in_err-read_rest-in-Cards : goal.returns-in_err-read_rest-in-Cards
 returns-in_err-read_rest-in-Cards c =
     let p = err_from_is_err_and c.from_residual-in_err-read_rest-in-Cards.result c.from_residual-in_err-read_rest-in-Cards.ensures.1 in
-    rw (p.1, p.2) (c.in_err-read_rest-in-Cards.ensures.told ∙ header_goes c.args.bytes.now c.if-bytes-gt65536.false c.in-Some.line.now c.in-Some.rest.now c.in-Some.ensures.0 (header_level (kind_shown c.in_ok-kind.kind) (header_numbers c.in_ok-kind.header)) (stage_shown c.start-reader-in-Cards.result.stage) (level_shown cards card_numbers card_walls.wall_numbers c.start-reader-in-Cards.result.level) c.in_ok-kind.ensures (ap stage_shown c.start-reader-in-Cards.ensures.stage) (c.start-reader-in-Cards.ensures.level ∙ ap (λ k. header_level (kind_shown k) (header_numbers c.in_ok-kind.header)) (sym c.in-Cards.is)))
+    rw (p.1, p.2) (c.in_err-read_rest-in-Cards.ensures ∙ header_goes c.args.bytes.now c.if-bytes-gt65536.false c.in-Some.line.now c.in-Some.rest.now c.in-Some.ensures.0 (header_level (kind_shown c.in_ok-kind.kind) (header_numbers c.in_ok-kind.header)) (stage_shown c.start-reader-in-Cards.result.stage) (level_read c.start-reader-in-Cards.result) c.in_ok-kind.ensures (ap stage_shown c.start-reader-in-Cards.ensures.stage) (c.start-reader-in-Cards.ensures.level ∙ ap (λ k. header_level (kind_shown k) (header_numbers c.in_ok-kind.header)) (sym c.in-Cards.is)))
 
 pub returns-in_ok-read_rest-in-Cards : goal.returns-in_ok-read_rest-in-Cards
-returns-in_ok-read_rest-in-Cards c = c.in_ok-read_rest-in-Cards.ensures.told ∙ header_goes c.args.bytes.now c.if-bytes-gt65536.false c.in-Some.line.now c.in-Some.rest.now c.in-Some.ensures.0 (header_level (kind_shown c.in_ok-kind.kind) (header_numbers c.in_ok-kind.header)) (stage_shown c.start-reader-in-Cards.result.stage) (level_shown cards card_numbers card_walls.wall_numbers c.start-reader-in-Cards.result.level) c.in_ok-kind.ensures (ap stage_shown c.start-reader-in-Cards.ensures.stage) (c.start-reader-in-Cards.ensures.level ∙ ap (λ k. header_level (kind_shown k) (header_numbers c.in_ok-kind.header)) (sym c.in-Cards.is))
+returns-in_ok-read_rest-in-Cards c = c.in_ok-read_rest-in-Cards.ensures ∙ header_goes c.args.bytes.now c.if-bytes-gt65536.false c.in-Some.line.now c.in-Some.rest.now c.in-Some.ensures.0 (header_level (kind_shown c.in_ok-kind.kind) (header_numbers c.in_ok-kind.header)) (stage_shown c.start-reader-in-Cards.result.stage) (level_read c.start-reader-in-Cards.result) c.in_ok-kind.ensures (ap stage_shown c.start-reader-in-Cards.ensures.stage) (c.start-reader-in-Cards.ensures.level ∙ ap (λ k. header_level (kind_shown k) (header_numbers c.in_ok-kind.header)) (sym c.in-Cards.is))

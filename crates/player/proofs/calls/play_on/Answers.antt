@@ -1,7 +1,7 @@
 use Rattle.std.proofs.Common.{List, ℕ, map, sym, refl, ◌∙◌, lit≤, subst, rules}
 use Rattle.std.proofs.lemmas.Result.{err_from_is_err_and}
 use Rattle.index.specs.Outcomes.{gives}
-use Rattle.roadmap.specs.Roads.{road_of}
+use Rattle.roadmap.specs.Roadmaps.{road_of}
 use Rattle.history_theory.specs.History.{start}
 use Rattle.history.specs.Turns.{lent}
 use Rattle.history_theory.proofs.Reaching.{reached_new}
@@ -17,10 +17,9 @@ loop-i-init g c =
       places = (refl, refl);
       same_reference = refl;
       end = c.new-output.ensures.len;
-      sound = made.3;
       going = record {
         history = start c.args.k 64;
-        reached = reached_new g.I.Element.Metric.dist c.args.k 64 (lit≤ tt) (road_of g.I.Index.meaning c.in-Ok.road) (g.I.Index.meaning c.args.index) made.4 c.requires.fresh;
+        reached = reached_new g.I.Element.Metric.dist c.args.k 64 (lit≤ tt) (road_of g.I.Index.meaning c.in-Ok.road) (g.I.Index.meaning c.args.index) made.3 c.requires.fresh;
         back = λ o after x. (let P : List ℕ → Type 0 = λ bytes. Answered g.I.Element.Metric.dist (start c.args.k 64) (map (λ line. set_call g.C.Checker.passes (line_call line c.args.checker)) c.args.lines.now) blank_lists 0 0 bytes o after in subst P c.new-output.ensures.bytes x);
       };
     }
@@ -40,7 +39,6 @@ loop-i-preserved g c =
       places = (c.answer_call-answered.auto.hits ∙ c.loop-i.invariant.places.0, c.answer_call-answered.auto.numbers ∙ c.loop-i.invariant.places.1);
       same_reference = x.same_reference ∙ c.loop-i.invariant.same_reference;
       end = kept_end c.answer_call-answered.result _ c.loop-i.output.len c.answer_call-answered.new.out.len c.in_ok-end.end was x.len;
-      sound = x.stays;
       going = step_more g.I.Element.Metric.dist g.I.Element.Metric.GREATEST g.I.Element.Metric.laws g.C.Checker.passes g.C.Checker.symmetric c.args.checker _
           c.args.lines.now c.index-lines-i.result c.loop-i.i c.loop-i.end c.call_of-call.result _ _ (lent c.loop-i.hits c.loop-i.numbers) _ c.loop-i.output.bytes.now _ c.loop-i-test.true c.index-lines-i.is c.call_of-call.ensures c.answer_call-answered.result c.loop-i.output.len c.in_ok-end.end _ c.loop-i.invariant.end was x.answers c.loop-i.invariant.going;
     }

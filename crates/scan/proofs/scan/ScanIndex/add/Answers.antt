@@ -1,10 +1,17 @@
-use Rattle.std.proofs.Common.{refl, arith}
+use Rattle.std.proofs.Common.{◌≡◌, refl, arith}
 use Rattle.index.proofs.Outcomes.{room_left, numbers_left}
-use Rattle.scan.proofs.States.{add_sound}
+use Rattle.scan.specs.Scans.{scan_meaning}
+use Rattle.scan.proofs.States.{add_used, add_rising}
 use Rattle.scan.proofs.scan.ScanIndex.add.Goals as goal
 
-pub returns-clause-stays : goal.returns-clause-stays
-returns-clause-stays g c =
+pub invariant_of-self : goal.invariant_of-self
+invariant_of-self g c =
     let s = c.args.self.now in
-    let room = room_left c.capacity.result s.used s.last c.in_ok-room.ensures in
-    add_sound s c.requires c.args.e (λ i. room (omega (arith, i, c.capacity.ensures))) _ refl (numbers_left c.capacity.result s.used s.last c.in_ok-room.ensures) _ refl refl refl
+    let left = room_left c.capacity.result s.used s.last c.in_ok-room.ensures in
+    let more = numbers_left c.capacity.result s.used s.last c.in_ok-room.ensures in
+    let room : s.used ≡ (scan_meaning s).capacity → ⊥ = λ i. left (omega (arith, i, c.capacity.ensures)) in
+    record {
+      used_bound = add_used s c.args.e room _ refl;
+      last_bound = omega (arith, s.last_bound, more);
+      rising = add_rising s c.args.e room _ refl;
+    }

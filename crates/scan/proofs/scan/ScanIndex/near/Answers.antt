@@ -18,10 +18,10 @@ returns-then-k-eq0 g c =
     (λ e. or_right (eqb k 0) (ltb (length list) k) (lt-ltb (length list) k e.1))
     c.then-k-eq0.either in
     let r = near_refused g.E.Metric.dist (scan_meaning s) c.args.q.now k list bad in
-    record { answer = r.0; writes = r.1; ranked = ranked s c.requires g.E.Metric.dist c.args.q.now }
+    record { answer = r.0; writes = r.1; ranked = ranked s g.E.Metric.dist c.args.q.now }
 
 pub gather-found-requires : goal.gather-found-requires
-gather-found-requires g c = lent_rise c.args.self.now c.requires
+gather-found-requires g c = lent_rise c.args.self.now
 
 pub returns : goal.returns
 returns g c =
@@ -34,10 +34,10 @@ returns g c =
     let fits = c.if-k-list.false in
     let low : 0 < k = omega (arith, c.if-k-eq0.false) in
     let all : k - 0 ≡ k = omega arith in
-    let lends = ap samples (lent s c.requires) in
+    let lends = ap samples (lent s) in
     let r = near_done dist (scan_meaning s) q k list low fits in
     record {
       answer = ap gives (near_counts dist laws q (scan_meaning s).standing _ lends k c.gather-found.result c.min.result c.gather-found.ensures.count c.min.ensures) ∙ r.0;
       writes = near_writes dist laws q (scan_meaning s).standing _ lends k list fits (k - 0) all c.gather-found.new.list c.gather-found.ensures.writes ∙ r.1;
-      ranked = ranked s c.requires dist q;
+      ranked = ranked s dist q;
     }

@@ -7,7 +7,7 @@ use Rattle.scan.proofs.States.{lent, lent_rise, ranked}
 use Rattle.scan.proofs.scan.ScanIndex.within.Goals as goal
 
 pub gather-requires : goal.gather-requires
-gather-requires g c = lent_rise c.args.self.now c.requires
+gather-requires g c = lent_rise c.args.self.now
 
 pub returns : goal.returns
 returns g c =
@@ -17,7 +17,7 @@ returns g c =
     let r = c.args.radius in
     let list = c.args.list.now in
     record {
-      answer = c.gather.ensures.count ∙ ap (λ rows. length (inside r (hits dist q (samples rows)))) (lent s c.requires);
-      writes = c.gather.ensures.writes ∙ ap (λ rows. over (take (length list) (inside r (hits dist q (samples rows)))) list) (lent s c.requires);
-      ranked = ranked s c.requires dist q;
+      answer = c.gather.ensures.count ∙ ap (λ rows. length (inside r (hits dist q (samples rows)))) (lent s);
+      writes = c.gather.ensures.writes ∙ ap (λ rows. over (take (length list) (inside r (hits dist q (samples rows)))) list) (lent s);
+      ranked = ranked s dist q;
     }

@@ -1,5 +1,0 @@
-use Rattle.links.specs.Records.{Resolved}
-use Rattle.links.proofs.resolve.Given as goal
-
-abbrev pub invariant-loop-at : goal.invariant-loop-at
-invariant-loop-at l = Resolved l.links l.at l.edges l.made

@@ -1,7 +1,0 @@
-use Rattle.std.proofs.Common.{[], get_or}
-use Rattle.links.proofs.Resolving.{SoFar}
-use Rattle.links.proofs.resolve_one.Given as goal
-
-abbrev pub invariant-loop-elder : goal.invariant-loop-elder
-invariant-loop-elder l =
-    SoFar l.links (get_or l.links l.at (record { number = 0; count = 0; elders = [] })) l.initial.edges l.made l.edges l.all l.elder-index
