@@ -1,6 +1,6 @@
 #!/bin/sh
 # Builds the library for C in a copy of the repository, and measures it beside a plain scan, a plain loop and OMPL.
-# Needs g++ and Debian's libompl-dev. Run it on a machine that does nothing else.
+# Needs g++, python3 and Debian's libompl-dev. Run it on a machine that does nothing else.
 set -e
 here=$(cd "$(dirname "$0")" && pwd)
 work=$(mktemp -d)
@@ -13,4 +13,7 @@ rt check > "$work/check.log" 2>&1
 rt lib > "$work/lib.log" 2>&1
 g++ -O2 -std=c++17 -I/usr/include/ompl-1.5 -I/usr/include/eigen3 "$here/compare.cpp" out/libbench_c.a -o "$work/compare" -lompl
 "$work/compare"
+cd "$work/repository/crates/levelrun"
+rt run < /dev/null > "$work/run.log" 2>&1
+python3 "$here/levels.py" out/levelrun
 rm -rf "$work"
