@@ -35,12 +35,13 @@ pub fn turn(from: u16, to: u16) -> i32
     }
 }
 
-// The size of the turn from one angle to another.
+// The size of the turn from one angle to another: the shorter of the two ways round.
 pub fn swing(from: u16, to: u16) -> u32
     ensures value { result ≡ swing_of from to }
     ensures bound { result ≤ 2048 }
 {
-    turn(from, to).unsigned_abs()
+    let upward = (4096 + u32::from(to % 4096) - u32::from(from % 4096)) % 4096;
+    upward.min(4096 - upward)
 }
 
 impl Metric for Arm {

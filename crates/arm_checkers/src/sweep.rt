@@ -6,6 +6,7 @@ ghost use Rattle.arm_checkers.specs.Lawful.{box_symmetric};
 
 use arm::{Arm, turn};
 use checker::Checker;
+use std::array;
 use walls::{Arc, Wall};
 
 #[derive(Clone, Copy)]
@@ -29,17 +30,8 @@ fn swept_arc(from: u16, to: u16) -> Arc
 fn sweep(a: &Arm, b: &Arm) -> Wall
     ensures { result ≡ swept_box a.now b.now }
 {
-    let from = a.angles;
-    let to = b.angles;
     Wall {
-        arcs: [
-            swept_arc(from[0], to[0]),
-            swept_arc(from[1], to[1]),
-            swept_arc(from[2], to[2]),
-            swept_arc(from[3], to[3]),
-            swept_arc(from[4], to[4]),
-            swept_arc(from[5], to[5]),
-        ],
+        arcs: array::from_fn(|i| swept_arc(a.angles[i], b.angles[i])),
     }
 }
 

@@ -3,9 +3,9 @@ use Rattle.std.proofs.Common.{◌≡◌, ℕ, zero, suc, ◌<◌, cond, eqb, ◌
 use Rattle.std.specs.List.{AllByRecursion}
 use Rattle.std.proofs.lemmas.Bool.{cases_eq}
 use Rattle.hits.specs.Samples.{Among}
+use Rattle.hits.proofs.Among.{all_among}
 use Rattle.chains.specs.declared.Edge.{Edge}
 use Rattle.chains.specs.Edges.{edge, Linked, renamed, Inside, Rises}
-use Rattle.chains.proofs.Settling.{all_among}
 use Rattle.chains.proofs.Moving.{Renames}
 
 -- the first place of a number
@@ -71,7 +71,7 @@ module _ (numbers : List ℕ) (rises : Rises 0 numbers) (edges : List Edge) (all
   one_way x y d a =
       let r = among_unmap (renamed (number_at numbers)) edges (edge x y d) a in
       let e = r.0 in
-      let i = all_among (Inside (length numbers)) edges e all r.1 in
+      let i = all_among (Inside (length numbers)) e edges all r.1 in
       let ex : position x numbers ≡ e.elder = ap (λ z. position z.elder numbers) r.2 ∙ position_at 0 numbers e.elder rises i.0 in
       let ey : position y numbers ≡ e.younger = ap (λ z. position z.younger numbers) r.2 ∙ position_at 0 numbers e.younger rises i.1 in
       let ed : d ≡ e.length = ap (λ z. z.length) r.2 in
@@ -83,7 +83,7 @@ module _ (numbers : List ℕ) (rises : Rises 0 numbers) (edges : List Edge) (all
   ends_in x y d a =
       let r = among_unmap (renamed (number_at numbers)) edges (edge x y d) a in
       let e = r.0 in
-      let i = all_among (Inside (length numbers)) edges e all r.1 in
+      let i = all_among (Inside (length numbers)) e edges all r.1 in
       let P : ℕ → Type 0 = λ z. Among z numbers in (
         stands_out x (subst P (sym (ap (λ z. z.elder) r.2)) (among_at numbers e.elder i.0)),
         stands_out y (subst P (sym (ap (λ z. z.younger) r.2)) (among_at numbers e.younger i.1)),
@@ -100,6 +100,6 @@ module _ (numbers : List ℕ) (rises : Rises 0 numbers) (edges : List Edge) (all
     there = λ n l. position_at 0 numbers n rises l;
     back = λ n s. (position_in n numbers (stands_in n s)).1;
     rises = λ x y sx sy l. rises_at 0 numbers x y rises l sy;
-    ends = λ x y d k. ⊎_elim (λ a. let i = all_among (Inside (length numbers)) edges (edge x y d) all a in (i.0, i.1)) (λ a. let i = all_among (Inside (length numbers)) edges (edge y x d) all a in (i.1, i.0)) k;
+    ends = λ x y d k. ⊎_elim (λ a. let i = all_among (Inside (length numbers)) (edge x y d) edges all a in (i.0, i.1)) (λ a. let i = all_among (Inside (length numbers)) (edge y x d) edges all a in (i.1, i.0)) k;
     ends' = λ x y d k. ⊎_elim (λ a. ends_in x y d a) (λ a. let p = ends_in y x d a in (p.1, p.0)) k;
   }

@@ -3,17 +3,11 @@ use Rattle.std.proofs.Common.{◌≡◌, ℕ, zero, suc, ◌+◌, ◌*◌, ◌<�
 use Rattle.std.specs.List.{AllByRecursion}
 use Rattle.std.proofs.lemmas.List.{get_or_past}
 use Rattle.std.proofs.lemmas.Bool.{cases_lt, cases_order}
-use Rattle.hits.specs.Samples.{Among}
+use Rattle.hits.proofs.Among.{all_among}
 use Rattle.chains.specs.declared.Edge.{Edge}
 use Rattle.chains.specs.Chains.{Starts, NotAfter, Preferred, Joins, Route}
 use Rattle.chains.specs.Edges.{edge, Linked, Inside}
 use Rattle.chains.specs.Costs.{none, step_cost, cost_at, Way, stays, goes, SettledAt, Settled, Onward}
-
--- what holds of all holds of one among them
-pub all_among : {X : Type 0} (P : X → Type 0) (xs : List X) (x : X) → AllByRecursion P xs → Among x xs → P x
-all_among P [] x a m = absurd m
-all_among P (y ∷ ys) x a (inl e) = subst P (sym e) a.0
-all_among P (y ∷ ys) x a (inr m) = all_among P ys x a.1 m
 
 -- how many costs are below c
 abbrev pub flag : ℕ → ℕ → ℕ
@@ -81,12 +75,12 @@ Placed costs i = i < length costs
 module _ (edges : List Edge) (goal : ℕ) (costs : List ℕ) (few : length costs ≤ 1024) (all : AllByRecursion (Inside (length costs)) edges) (settled : Settled edges goal costs) where
   -- both ends of a link are inside, and it is not long
   linked_inside : (i j d : ℕ) → Linked edges i j d → (i < length costs) × (j < length costs) × (d ≤ 1048576)
-  linked_inside i j d (inl m) = let p = all_among (Inside (length costs)) edges (edge i j d) all m in (p.0, p.1, p.2)
-  linked_inside i j d (inr m) = let p = all_among (Inside (length costs)) edges (edge j i d) all m in (p.1, p.0, p.2)
+  linked_inside i j d (inl m) = let p = all_among (Inside (length costs)) (edge i j d) edges all m in (p.0, p.1, p.2)
+  linked_inside i j d (inr m) = let p = all_among (Inside (length costs)) (edge j i d) edges all m in (p.1, p.0, p.2)
 
   lowest : (i j d : ℕ) → Linked edges i j d → cost_at costs j < none → cost_at costs i ≤ cost_at costs j + step_cost d
-  lowest i j d (inl m) l = (all_among (SettledAt costs) edges (edge i j d) settled.settled m).elder l
-  lowest i j d (inr m) l = (all_among (SettledAt costs) edges (edge j i d) settled.settled m).younger l
+  lowest i j d (inl m) l = (all_among (SettledAt costs) (edge i j d) edges settled.settled m).elder l
+  lowest i j d (inr m) l = (all_among (SettledAt costs) (edge j i d) edges settled.settled m).younger l
 
   -- no way costs less
   least : (i c : ℕ) → Way edges goal i c → c < none → cost_at costs i ≤ c

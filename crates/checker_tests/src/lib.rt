@@ -1,7 +1,9 @@
 // Step, Box and Mix beside the same rules computed another way, over many pairs and walls.
 #![tactic(auto)]
 
+#[cfg(test)]
 mod cases;
+#[cfg(test)]
 mod plain;
 
 #[cfg(test)]

@@ -26,7 +26,7 @@ use Rattle.gnat_rows.proofs.Showing.{Same, frame}
 use Rattle.gnat_rows.proofs.Trees.{shown_tree}
 use Rattle.gnat_order.specs.Order.{Within, places, placed, swapped}
 use Rattle.gnat_order.proofs.Places.{places_placed, length_placed}
-use Rattle.gnat_order.proofs.Numbers.{there}
+use Rattle.gnat_rows.proofs.Changes.{nth_there}
 use Rattle.gnat_order.proofs.Moves.{enlisted, shuffled_enlisted, take_swapped, length_swapped}
 use Rattle.gnat_order.proofs.Framing.{shows_placed, samples_placed, samples_only, places_only, samples_append, samples_other, places_kept}
 use Rattle.gnat_filing.specs.declared.settings.Settings.{Settings}
@@ -93,7 +93,7 @@ module _ {E : Type 0} (dist : E → E → ℕ) (g : State E) (o : LaidOut dist g
     -- the new sample is there
     pub prepared_row : (row : Row E) × (slice_get prepared free_row ≡ Some row) × (sample_in row ≡ record { number = number; element = e })
     prepared_row =
-        let r = there relisted free_row (omega (arith, free_within, relisted_length)) in
+        let r = nth_there relisted free_row (omega (arith, free_within, relisted_length)) in
         (record { element = e; number = number; marked = false; place = r.0.place; node = r.0.node }, nth_changed relisted free_row _ r.0 r.1, refl)
 
     -- the free row comes right behind those that stand

@@ -7,12 +7,13 @@ use Rattle.hits.specs.declared.Hit.{Hit}
 use Rattle.hits.specs.Lists.{over}
 use Rattle.hits.specs.Samples.{Sample, Among, Ranked, Rising, hits}
 use Rattle.hits.proofs.Ranking.{hits_ranked}
+use Rattle.hits.proofs.Among.{all_among}
 use Rattle.index.specs.Meaning.{element_at}
 use Rattle.index.specs.Outcomes.{room_outcome}
 use Rattle.index.specs.Calls.{room_of}
 use Rattle.index.proofs.Standing.{rising_wider}
 use Rattle.gnat_theory.specs.Shuffles.{Apart}
-use Rattle.gnat_theory.proofs.Pruning.{all_among, rising_apart}
+use Rattle.gnat_theory.proofs.Pruning.{rising_apart}
 use Rattle.gnat_theory.proofs.Theorems.{rows_counted}
 use Rattle.gnat_rows.specs.declared.Row.{Row}
 use Rattle.gnat_rows.specs.Shows.{sample_in}

@@ -1,5 +1,5 @@
 -- The state of a GNAT after a sample is dropped. Assumes nothing.
-use Rattle.std.proofs.Common.{◌≡◌, ℕ, zero, suc, ◌+◌, ◌-◌, ◌<◌, ◌≤◌, min, Bool, true, false, cond, eqb, List, [], ◌∷◌, ◌++◌, length, get_or, take, drop, Some, sym, refl, ap, ◌∙◌, subst, arith, eq-eqb, ne_eqb}
+use Rattle.std.proofs.Common.{◌≡◌, ℕ, zero, suc, ◌+◌, ◌-◌, ◌<◌, ◌≤◌, min, cond, List, [], ◌∷◌, ◌++◌, length, get_or, take, drop, Some, sym, ap, ◌∙◌, subst, arith, eq-eqb, ne_eqb}
 use Rattle.std.specs.List.{slice_get}
 use Rattle.hits.specs.Samples.{Rising}
 use Rattle.std.proofs.ByRecursion.{All-append, All-take, All-drop, All-weaker}
@@ -21,55 +21,14 @@ use Rattle.gnat.specs.States.{State, capacity_of, listed, standing_in, meaning_o
 use Rattle.gnat.proofs.Laid.{LaidOut, shallow, whole_tree}
 use Rattle.gnat.specs.Lawful.{in_rows, listed_within}
 use Rattle.gnat_theory.specs.Shuffles.{Shuffle}
-use Rattle.gnat_theory.specs.Shuffles.Shuffle.{nothing, after, swapped, in_turn}
-use Rattle.gnat_theory.proofs.Shuffling.{same_order, all_shuffle, length_shuffle}
+use Rattle.gnat_theory.proofs.Shuffling.{all_shuffle, length_shuffle}
 use Rattle.gnat_rows.specs.declared.Row.{Row}
-use Rattle.gnat_rows.specs.Lying.{Absent, Distinct, OnlyIn}
+use Rattle.gnat_rows.specs.Lying.{Distinct, OnlyIn}
 use Rattle.gnat_rows.specs.Shows.{sample_in, Shows}
 use Rattle.gnat_rows.specs.Trees.{sample_on, samples_at, tree_of}
 use Rattle.gnat_order.specs.Order.{Within, places, placed}
-use Rattle.gnat_order.proofs.Numbers.{there, number_listed, rising_order, length_samples_at}
-
--- the others
-abbrev pub minus : ℕ → List ℕ → List ℕ
-minus i [] = []
-minus i (x ∷ xs) = cond (eqb x i) (minus i xs) (x ∷ minus i xs)
-
-minus_one : (i x : ℕ) (xs ys : List ℕ) → Shuffle ℕ (minus i xs) (minus i ys) → Shuffle ℕ (minus i (x ∷ xs)) (minus i (x ∷ ys))
-minus_one i x xs ys s = go (eqb x i)
-  where
-    go : (b : Bool) → Shuffle ℕ (cond b (minus i xs) (x ∷ minus i xs)) (cond b (minus i ys) (x ∷ minus i ys))
-    go true = s
-    go false = after x _ _ s
-
-minus_two : (i x y : ℕ) (xs : List ℕ) → Shuffle ℕ (minus i (x ∷ (y ∷ xs))) (minus i (y ∷ (x ∷ xs)))
-minus_two i x y xs = go (eqb x i) (eqb y i)
-  where
-    rest : List ℕ
-    rest = minus i xs
-
-    go : (a b : Bool) → Shuffle ℕ (cond a (cond b rest (y ∷ rest)) (x ∷ cond b rest (y ∷ rest))) (cond b (cond a rest (x ∷ rest)) (y ∷ cond a rest (x ∷ rest)))
-    go true true = same_order rest
-    go true false = same_order (y ∷ rest)
-    go false true = same_order (x ∷ rest)
-    go false false = swapped x y rest
-
-minus_shuffle : (i : ℕ) (xs ys : List ℕ) → Shuffle ℕ xs ys → Shuffle ℕ (minus i xs) (minus i ys)
-minus_shuffle i _ _ nothing = nothing
-minus_shuffle i _ _ (after x xs ys s) = minus_one i x xs ys (minus_shuffle i xs ys s)
-minus_shuffle i _ _ (swapped x y xs) = minus_two i x y xs
-minus_shuffle i _ _ (in_turn xs ys zs a b) = in_turn _ _ _ (minus_shuffle i xs ys a) (minus_shuffle i ys zs b)
-
-minus_absent : (i : ℕ) (xs : List ℕ) → Absent i xs → minus i xs ≡ xs
-minus_absent i [] a = refl
-minus_absent i (x ∷ xs) a = ap (λ b. cond b (minus i xs) (x ∷ minus i xs)) (ne_eqb x i (λ e. a.0 (sym e))) ∙ ap (λ z. x ∷ z) (minus_absent i xs a.1)
-
-minus_head : (i : ℕ) (xs : List ℕ) → Absent i xs → minus i (i ∷ xs) ≡ xs
-minus_head i xs a = ap (λ b. cond b (minus i xs) (i ∷ minus i xs)) (eq-eqb i i refl) ∙ minus_absent i xs a
-
--- what is left is the same where what is taken out is
-pub cancelled : (i : ℕ) (xs ys : List ℕ) → Distinct (i ∷ xs) → Distinct (i ∷ ys) → Shuffle ℕ (i ∷ xs) (i ∷ ys) → Shuffle ℕ xs ys
-cancelled i xs ys d e s = subst (λ z. Shuffle ℕ z ys) (minus_head i xs d.0) (subst (Shuffle ℕ (minus i (i ∷ xs))) (minus_head i ys e.0) (minus_shuffle i (i ∷ xs) (i ∷ ys) s))
+use Rattle.gnat_rows.proofs.Changes.{nth_there}
+use Rattle.gnat_order.proofs.Numbers.{number_listed, rising_order, length_samples_at}
 
 module _ {E : Type 0} where
   -- the samples that are listed, without the one at place i
@@ -80,7 +39,7 @@ module _ {E : Type 0} where
       let up : Rising low high (sample_in r ∷ samples_at rows is) = subst (Rising low high) here rise in
       sym (ap (without n) here ∙ (ap (λ b. cond b (without n (samples_at rows is)) (sample_in r ∷ without n (samples_at rows is))) (eq-eqb r.number n k) ∙ without_below n r.number high (samples_at rows is) (omega arith) up.2))
   listed_without rows n low high (j ∷ is) (suc i) r w l rise e k =
-      let x = there rows j w.0 in
+      let x = nth_there rows j w.0 in
       let here : samples_at rows (j ∷ is) ≡ sample_in x.0 ∷ samples_at rows is = ap (λ o. sample_on o (samples_at rows is)) x.1 in
       let there-too : samples_at rows (j ∷ (take i is ++ drop (suc i) is)) ≡ sample_in x.0 ∷ samples_at rows (take i is ++ drop (suc i) is) = ap (λ o. sample_on o (samples_at rows (take i is ++ drop (suc i) is))) x.1 in
       let up : Rising low high (sample_in x.0 ∷ samples_at rows is) = subst (Rising low high) here rise in

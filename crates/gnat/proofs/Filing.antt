@@ -13,7 +13,6 @@ use Rattle.gnat_filing.specs.Filed.{Ready, LeavesTree, FilesIn}
 use Rattle.gnat.specs.States.{State, capacity_of, meaning_of, tree_in}
 use Rattle.gnat.proofs.Laid.{LaidOut, shallow}
 use Rattle.gnat.proofs.Adding.{free_row, free_apart, free_within, prepared, prepared_length, prepared_shows, prepared_row, add_means, add_tree, add_sound}
-use Rattle.gnat.proofs.Rebuilding.{depth_is_height}
 
 module _ {E : Type 0} (dist : E → E → ℕ) (g : State E) (o : LaidOut dist g) (roomy : g.standing + g.marked < capacity_of g) (e : E) where
   abbrev number : ℕ
@@ -33,7 +32,7 @@ module _ {E : Type 0} (dist : E → E → ℕ) (g : State E) (o : LaidOut dist g
     shows = prepared_shows dist g o roomy number e;
     apart = free_apart dist g o roomy;
     within = omega (arith, free_within dist g o roomy, prepared_length dist g o roomy number e);
-    deep = omega (arith, depth_is_height o.tree, shallow dist g.rows g.root o.tree o.lies g.settings.degree g.settings.bucket _ g.settings.two o.files o.shows (omega (arith, length_shuffle _ _ o.lists, length-take (g.standing + g.marked) (places g.rows), o.in_use)));
+    deep = shallow dist g.rows g.root o.tree o.lies g.settings.degree g.settings.bucket _ g.settings.two o.files o.shows (omega (arith, length_shuffle _ _ o.lists, length-take (g.standing + g.marked) (places g.rows), o.in_use));
     branching = o.files.branching;
     leaves = o.files.leaves;
   }

@@ -2,7 +2,8 @@
 use Rattle.std.proofs.Common.{◌≡◌, ℕ, zero, suc, ◌+◌, ◌<◌, ◌≤◌, Bool, true, false, cond, List, [], ◌∷◌, ◌++◌, length, take, Some, None, Option, sym, refl, ap, ◌∙◌, subst, inl, inr, ⊎_elim, arith}
 use Rattle.std.specs.List.{slice_get, AllByRecursion}
 use Rattle.std.proofs.lemmas.List.{length-map, length-take-le}
-use Rattle.hits.specs.Samples.{Sample, Among, Rising}
+use Rattle.hits.specs.Samples.{Sample, Among, Rising, numbers_of}
+use Rattle.hits.proofs.Among.{all_among, among_left, among_right, among_append}
 use Rattle.gnat_theory.specs.Tree.{Tree, Parts, Pivot, sample_of, gathered_parts, if_standing, always, standing, members}
 use Rattle.gnat_theory.specs.Tree.Tree.{leaf, branch}
 use Rattle.gnat_theory.specs.Tree.Parts.{none, part}
@@ -11,7 +12,6 @@ use Rattle.gnat_theory.specs.Ranges.{Ranged, Placed}
 use Rattle.gnat_theory.specs.Shapes.{Branching, Leaves}
 use Rattle.gnat_theory.specs.Shuffles.{Shuffle, Apart, SameTimes, times}
 use Rattle.gnat_theory.proofs.Counting.{times_shuffle, shuffle_by, same_times, shuffle_numbers}
-use Rattle.gnat_theory.proofs.Pruning.{all_among, among_left, among_right, among_append}
 use Rattle.gnat_theory.proofs.Shuffling.{among_shuffle, shuffle_back, length_shuffle}
 use Rattle.gnat_theory.proofs.Theorems.{rows_counted}
 use Rattle.gnat_rows.specs.declared.Node.{Node}
@@ -23,7 +23,7 @@ use Rattle.gnat_rows.proofs.Showing.{row_among, shows_length}
 use Rattle.gnat_rows.proofs.Trees.{shown_tree, height_bound}
 use Rattle.gnat_rows.proofs.Whole.{is_shown, shows_whole}
 use Rattle.gnat_order.specs.Order.{Within, places}
-use Rattle.gnat.specs.States.{State, capacity_of, in_use, standing_in, tree_in, numbers_of, GnatSound, FilesAll}
+use Rattle.gnat.specs.States.{State, capacity_of, in_use, standing_in, tree_in, GnatSound, FilesAll}
 
 -- the same facts of a tree and of rows that are not yet known to be those that the rows show
 pub record LaidOut {E : Type 0} (dist : E → E → ℕ) (g : State E) : Type 0 where

@@ -1,17 +1,19 @@
 -- The order of the rows after a drop: the dropped row is marked, or free. Assumes nothing.
 use Rattle.std.proofs.Common.{◌≡◌, ℕ, suc, ◌+◌, ◌-◌, ◌<◌, ◌≤◌, List, [], ◌∷◌, ◌++◌, length, get_or, take, drop, sym, ap, ◌∙◌, subst, arith, take-suc}
 use Rattle.std.proofs.lemmas.List.{length-map, append-nil, take-append-drop, take-take}
+use Rattle.hits.specs.Lists.{closed}
+use Rattle.hits.proofs.Closing.{closed_front, closed_length}
 use Rattle.gnat_theory.specs.Shuffles.{Shuffle}
 use Rattle.gnat_theory.specs.Shuffles.Shuffle.{in_turn}
 use Rattle.gnat_theory.proofs.Shuffling.{shuffle_front, shuffle_back}
+use Rattle.gnat_theory.proofs.Counting.{shuffle_left}
 use Rattle.gnat_rows.specs.declared.Row.{Row}
 use Rattle.gnat_rows.specs.Lying.{Distinct}
 use Rattle.gnat_rows.proofs.Apart.{distinct_left, distinct_shuffle}
-use Rattle.gnat_order.specs.Order.{places, swapped, behind}
-use Rattle.gnat_order.proofs.Moves.{behind_firsts, swapped_firsts, length_behind, length_swapped, take_behind, get_or_behind, take_before, get_or_swapped}
+use Rattle.gnat_order.specs.Order.{places, swapped}
+use Rattle.gnat_order.proofs.Moves.{closed_firsts, swapped_firsts, length_swapped, closed_last, take_before, get_or_swapped}
 use Rattle.gnat.specs.States.{State, capacity_of, listed}
 use Rattle.gnat.proofs.Laid.{LaidOut}
-use Rattle.gnat.proofs.Dropping.{cancelled}
 
 module _ {E : Type 0} (dist : E → E → ℕ) (g : State E) (o : LaidOut dist g) (i : ℕ) (inside : i < g.standing) (lies : List ℕ) where
   long : length (places g.rows) ≡ length g.rows
@@ -26,19 +28,19 @@ module _ {E : Type 0} (dist : E → E → ℕ) (g : State E) (o : LaidOut dist g
 
   -- the order with it behind those that stand
   abbrev pub moved : List ℕ
-  moved = behind i g.standing (places g.rows)
+  moved = closed i g.standing (places g.rows)
 
   pub moved_length : length moved ≡ length g.rows
-  moved_length = length_behind i g.standing (places g.rows) inside fit ∙ long
+  moved_length = closed_length i g.standing (places g.rows) inside fit ∙ long
 
   pub moved_first : take (g.standing - 1) moved ≡ take i (listed g) ++ drop (suc i) (listed g)
-  moved_first = take_behind i g.standing (places g.rows) inside fit
+  moved_first = closed_front i g.standing (places g.rows) inside fit
 
   pub moved_same : Shuffle ℕ (take (capacity_of g) (places g.rows)) (take (capacity_of g) moved)
-  moved_same = behind_firsts i g.standing (capacity_of g) (places g.rows) inside (omega (arith, o.in_use)) fit
+  moved_same = closed_firsts i g.standing (capacity_of g) (places g.rows) inside (omega (arith, o.in_use)) fit
 
   moved_in_use : Shuffle ℕ o.lies (take (g.standing + g.marked) moved)
-  moved_in_use = in_turn _ _ _ o.lists (behind_firsts i g.standing (g.standing + g.marked) (places g.rows) inside (omega arith) fit)
+  moved_in_use = in_turn _ _ _ o.lists (closed_firsts i g.standing (g.standing + g.marked) (places g.rows) inside (omega arith) fit)
 
   -- a pivot: it is the first of the marked ones
   pub marked_fits : (g.standing - 1) + (g.marked + 1) ≤ capacity_of g
@@ -71,7 +73,7 @@ module _ {E : Type 0} (dist : E → E → ℕ) (g : State E) (o : LaidOut dist g
   freed_in_use : Shuffle ℕ o.lies (take ((g.standing - 1) + g.marked) freed ++ (dropped_row ∷ []))
   freed_in_use =
       let count : g.standing + g.marked ≡ suc ((g.standing - 1) + g.marked) = omega arith in
-      let last : get_or freed ((g.standing - 1) + g.marked) 0 ≡ dropped_row = get_or_swapped (g.standing - 1) g.marked moved last_in_use ∙ get_or_behind i g.standing (places g.rows) inside fit in
+      let last : get_or freed ((g.standing - 1) + g.marked) 0 ≡ dropped_row = get_or_swapped (g.standing - 1) g.marked moved last_in_use ∙ closed_last i g.standing (places g.rows) inside fit in
       let cut : take (suc ((g.standing - 1) + g.marked)) freed ≡ take ((g.standing - 1) + g.marked) freed ++ (dropped_row ∷ []) =
       take-suc freed ((g.standing - 1) + g.marked) 0 (omega (arith, freed_length, moved_length, last_in_use)) ∙ ap (λ x. take ((g.standing - 1) + g.marked) freed ++ (x ∷ [])) last in
       subst (Shuffle ℕ o.lies) cut
@@ -91,4 +93,4 @@ module _ {E : Type 0} (dist : E → E → ℕ) (g : State E) (o : LaidOut dist g
       let rest = take ((g.standing - 1) + g.marked) freed in
       let turned : Shuffle ℕ (rest ++ (dropped_row ∷ [])) (dropped_row ∷ rest) = subst (λ z. Shuffle ℕ (rest ++ (dropped_row ∷ [])) (dropped_row ∷ z)) (append-nil rest) (shuffle_front rest dropped_row []) in
       let there : Shuffle ℕ o.lies (dropped_row ∷ rest) = in_turn _ _ _ freed_in_use turned in
-      cancelled dropped_row lies rest (distinct_shuffle _ _ (shuffle_back _ _ s) in_tree_distinct) (distinct_shuffle _ _ there in_tree_distinct) (in_turn _ _ _ s there)
+      shuffle_left dropped_row lies rest (in_turn _ _ _ s there)

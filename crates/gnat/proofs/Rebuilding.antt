@@ -4,9 +4,8 @@ use Rattle.std.specs.List.{slice_get, AllByRecursion}
 use Rattle.std.proofs.ByRecursion.{All-take, All-get_or}
 use Rattle.std.proofs.lemmas.List.{append-nil, length-take, length-take-le, length-map, take_all, take-append-drop, take-take, get_or-take}
 use Rattle.hits.specs.Samples.{Sample, Rising}
-use Rattle.gnat_theory.specs.Tree.{Tree, Parts, members}
-use Rattle.gnat_theory.specs.Tree.Tree.{leaf, branch}
-use Rattle.gnat_theory.specs.Tree.Parts.{none, part}
+use Rattle.gnat_theory.specs.Tree.{Tree, members}
+use Rattle.gnat_theory.specs.Tree.Tree.{leaf}
 use Rattle.gnat_theory.specs.Filing.{filed, filed_all}
 use Rattle.gnat_theory.specs.Splitting.{grown, kept_or_split}
 use Rattle.gnat_theory.specs.Rebuilding.{rebuilt}
@@ -21,30 +20,20 @@ use Rattle.gnat_rows.specs.declared.Row.{Row}
 use Rattle.gnat_rows.specs.Rows.{empty}
 use Rattle.gnat_rows.specs.Lying.{Distinct, OnlyIn}
 use Rattle.gnat_rows.specs.Shows.{Shows, sample_in}
-use Rattle.gnat_rows.specs.Trees.{sample_on, samples_at, tree_of, height, height_parts}
+use Rattle.gnat_rows.specs.Trees.{sample_on, samples_at, tree_of}
 use Rattle.gnat_rows.proofs.Apart.{distinct_left, distinct_shuffle}
 use Rattle.gnat_rows.proofs.Only.{only_none, only_wider, only_then}
 use Rattle.gnat_rows.proofs.Trees.{shown_tree}
 use Rattle.gnat_order.specs.Order.{Within, places}
 use Rattle.gnat_order.proofs.Places.{place_of}
-use Rattle.gnat_order.proofs.Numbers.{there}
+use Rattle.gnat_rows.proofs.Changes.{nth_there}
 use Rattle.gnat_order.proofs.Framing.{samples_only, places_only, samples_append}
-use Rattle.gnat_filing.specs.Filed.{Ready, FilesIn, depth, deepest}
+use Rattle.gnat_filing.specs.Filed.{Ready, FilesIn}
 use Rattle.gnat_filing.specs.declared.settings.Settings.{Settings}
 use Rattle.gnat.specs.States.{State, capacity_of, listed, standing_in, meaning_of}
 use Rattle.gnat.proofs.Laid.{LaidOut, shallow}
 use Rattle.gnat.specs.Refiling.{Refiled}
 use Rattle.gnat.specs.Lawful.{in_rows, listed_within}
-
--- filing counts the branches as the rows do
-mutual
-  pub depth_is_height : {E : Type 0} (t : Tree E) → depth t ≡ height t
-  depth_is_height (leaf xs) = refl
-  depth_is_height (branch ps) = omega (arith, deepest_is_height ps)
-
-  deepest_is_height : {E : Type 0} (ps : Parts E) → deepest ps ≡ height_parts ps
-  deepest_is_height none = refl
-  deepest_is_height (part p column t rest) = omega (arith, depth_is_height t, deepest_is_height rest)
 
 module _ {E : Type 0} (dist : E → E → ℕ) where
   filed_push : (became : List (Sample E) → Tree E) (xs : List (Sample E)) (s : Sample E) (t : Tree E) → filed_all dist became (xs ++ (s ∷ [])) t ≡ filed dist became s (filed_all dist became xs t)
@@ -64,7 +53,7 @@ module _ {E : Type 0} (dist : E → E → ℕ) where
       -- the sample is as it was
       same_sample : samples_at rows (get_or order j 0 ∷ []) ≡ sample_in row ∷ []
       same_sample =
-          let old = there rows (get_or order j 0) (All-get_or (λ k. k < length rows) order j 0 inside within) in
+          let old = nth_there rows (get_or order j 0) (All-get_or (λ k. k < length rows) order j 0 inside within) in
           let n = f.only.samples (get_or order j 0) old.0 old.1 in
           let one : n.0 ≡ row = same_some (sym n.1 ∙ is_row) in
           ap (λ r. sample_on r []) old.1 ∙ ap (λ x. x ∷ []) (sym n.2.0 ∙ ap sample_in one)
@@ -111,7 +100,7 @@ module _ {E : Type 0} (dist : E → E → ℕ) where
         shows = f.shows;
         apart = next_apart;
         within = omega (arith, All-get_or (λ k. k < length rows) order j 0 inside within, f.as_long);
-        deep = omega (arith, depth_is_height filed_tree, shallow dist new root filed_tree f.lies degree bucket _ two so_far f.shows (omega (arith, length_shuffle _ _ f.same_rows, length-take j order)));
+        deep = shallow dist new root filed_tree f.lies degree bucket _ two so_far f.shows (omega (arith, length_shuffle _ _ f.same_rows, length-take j order));
         branching = so_far.branching;
         leaves = so_far.leaves;
       }
@@ -141,7 +130,7 @@ module _ {E : Type 0} (dist : E → E → ℕ) (degree bucket : ℕ) (rows : Lis
 
   pub has_filed : (at : ℕ) → at ≡ get_or order j 0 → (later : List (Row E)) (after_it : Node) → FilesIn dist degree bucket 1025 new later root after_it at → length later ≡ length new → Refiled dist degree bucket rows order (suc j) later after_it
   has_filed at same later after_it files as_long =
-      let r = there new (get_or order j 0) next_ready.within in
+      let r = nth_there new (get_or order j 0) next_ready.within in
       let l = subst (λ i. FilesIn dist degree bucket 1025 new later root after_it i) same files _ f.lies r.0 next_ready r.1 in
       refiled_more dist degree bucket rows order within j (omega (arith, all_listed)) new later root after_it f r.0 r.1 l.lies l.shows l.same_rows l.only as_long
 

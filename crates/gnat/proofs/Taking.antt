@@ -21,7 +21,6 @@ use Rattle.gnat.proofs.Laid.{LaidOut, shallow}
 use Rattle.gnat.specs.Changes.{TakenOut}
 use Rattle.gnat.specs.Unlisting.{unlisted, marked_then}
 use Rattle.gnat.specs.Lawful.{in_rows, listed_within}
-use Rattle.gnat.proofs.Rebuilding.{depth_is_height}
 use Rattle.gnat.proofs.Dropping.{drop_means, drop_tree, drop_sound}
 use Rattle.gnat.proofs.Orders.{in_tree_distinct, moved, moved_length, moved_first, moved_same, marked_fits, marked_lists, freed, freed_length, freed_first, freed_same, freed_fits, freed_lists}
 
@@ -87,7 +86,7 @@ module _ {E : Type 0} (dist : E → E → ℕ) (g : State E) (o : LaidOut dist g
       there = is_row;
       lies = in_tree;
       stands = it_stands;
-      deep = omega (arith, depth_is_height o.tree, shallow dist old g.root o.tree o.lies g.settings.degree g.settings.bucket _ g.settings.two o.files o.shows (omega (arith, length_shuffle _ _ o.lists, length-take (g.standing + g.marked) (places old), o.in_use)));
+      deep = shallow dist old g.root o.tree o.lies g.settings.degree g.settings.bucket _ g.settings.two o.files o.shows (omega (arith, length_shuffle _ _ o.lists, length-take (g.standing + g.marked) (places old), o.in_use));
       some = omega (arith, g.settings.two);
       branching = o.files.branching;
       placed = o.files.placed;

@@ -2,13 +2,13 @@
 use Rattle.std.specs.Prelude.{ℕ, ◌<◌, ◌≤◌, take}
 use Rattle.std.specs.Coded.{le_prop}
 use Rattle.std.specs.List.{AllByRecursion-prop}
-use Rattle.hits.specs.Samples.{Rising-prop}
+use Rattle.hits.specs.Samples.{Rising-prop, numbers_of}
 use Rattle.gnat_theory.specs.Tree.{standing, members}
 use Rattle.gnat_theory.proofs.Unique.{same_times_once, apart_once, branching_once, leaves_once, ranged_once, placed_once}
 use Rattle.gnat_rows.specs.Trees.{rows_of}
 use Rattle.gnat_rows.proofs.Whole.{is_shown_once, distinct_once}
 use Rattle.gnat_order.specs.Order.{places}
-use Rattle.gnat.specs.States.{State, capacity_of, in_use, standing_in, tree_in, numbers_of, GnatSound}
+use Rattle.gnat.specs.States.{State, capacity_of, in_use, standing_in, tree_in, GnatSound}
 
 pub GnatSound-prop : {E : Type 0} (dist : E → E → ℕ) (g : State E) → IsProp (GnatSound dist g)
 GnatSound-prop dist g x y =

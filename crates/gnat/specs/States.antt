@@ -1,7 +1,7 @@
 -- The states of a GNAT: what each means, which tree it holds, and what is so in all of them.
-use Rattle.std.specs.Prelude.{ℕ, ◌+◌, ◌≤◌, min, List, length, map, take}
+use Rattle.std.specs.Prelude.{ℕ, ◌+◌, ◌≤◌, min, List, length, take}
 use Rattle.std.specs.List.{AllByRecursion}
-use Rattle.hits.specs.Samples.{Sample, Rising}
+use Rattle.hits.specs.Samples.{Sample, Rising, numbers_of}
 use Rattle.index.specs.Meaning.{Meaning}
 use Rattle.gnat_theory.specs.Tree.{Tree, members, standing}
 use Rattle.gnat_theory.specs.Keeping.{Files}
@@ -49,9 +49,6 @@ module _ {E : Type 0} where
   -- no tree over 1,024 rows is more branches deep
   abbrev pub tree_in : State E → Tree E
   tree_in g = tree_of 1025 g.rows g.root
-
-  abbrev pub numbers_of : List (Sample E) → List ℕ
-  numbers_of xs = map (λ s. s.number) xs
 
   module _ (dist : E → E → ℕ) where
     -- What is so in every state: each fact holds in one way only, so that a type can keep it.

@@ -3,6 +3,7 @@ use Rattle.std.proofs.Common.{◌≡◌, ℕ, ◌+◌, ◌-◌, ◌<◌, ◌≤�
 use Rattle.std.proofs.ByRecursion.{All-get_or}
 use Rattle.std.proofs.lemmas.List.{get_or-take, length-take-le, length-map, length-append, length_push, take_all}
 use Rattle.hits.specs.Samples.{Sample}
+use Rattle.hits.proofs.Among.{all_right}
 use Rattle.gnat_theory.specs.Tree.{Tree, pivots}
 use Rattle.gnat_theory.specs.Tree.Tree.{leaf, branch}
 use Rattle.gnat_theory.specs.Filing.{filed_all}
@@ -17,19 +18,20 @@ use Rattle.gnat_rows.specs.declared.Node.TheVariants as node
 use Rattle.gnat_rows.specs.declared.Row.{Row}
 use Rattle.gnat_rows.specs.Shows.{held}
 use Rattle.gnat_rows.specs.Lying.{Absent, OnlyIn}
-use Rattle.gnat_rows.proofs.Apart.{all_right, distinct_shuffle}
+use Rattle.gnat_rows.proofs.Apart.{distinct_shuffle}
 use Rattle.gnat_rows.proofs.Only.{only_wider, only_then, holds_kept}
 use Rattle.gnat_rows.proofs.Showing.{holds_within, holds_length}
 use Rattle.gnat_filing.specs.declared.choosing.Candidate.{Candidate}
 use Rattle.gnat_filing.specs.Choosing.{rows_of, ListsCandidates, Chosen, ChoosesFirst}
-use Rattle.gnat_filing.specs.Filed.{deepest, ReadyLeaf, LeavesTree}
+use Rattle.gnat_rows.specs.Trees.{height_parts}
+use Rattle.gnat_filing.specs.Filed.{ReadyLeaf, LeavesTree}
 use Rattle.gnat_filing.specs.Filling.{Cleared, Clears, Bare, Fillable}
 use Rattle.gnat_filing.proofs.Candidates.{cand_holds}
 use Rattle.gnat_filing.proofs.Clearing.{bare_shown}
 use Rattle.gnat_filing.proofs.Leaving.{end_to_front}
 
 module _ {E : Type 0} (dist : E → E → ℕ) where
-  bare_flat : (ps qs : List (Sample E)) → deepest (bare dist ps qs) ≡ 0
+  bare_flat : (ps qs : List (Sample E)) → height_parts (bare dist ps qs) ≡ 0
   bare_flat ps [] = refl
   bare_flat ps (q ∷ qs) = ap (max 0) (bare_flat ps qs)
 

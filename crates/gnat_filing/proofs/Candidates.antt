@@ -3,6 +3,7 @@ use Rattle.std.proofs.Common.{◌≡◌, ℕ, zero, suc, ◌+◌, ◌-◌, ◌<�
 use Rattle.std.specs.List.{slice_get}
 use Rattle.std.proofs.lemmas.List.{get_or_default, get_or_append_left, get_or_push, length_push, append_assoc, take-append-le}
 use Rattle.std.proofs.lemmas.Bool.{le-ltb, eq-eqb, cases_lt}
+use Rattle.std.proofs.lemmas.Option.{slice_get_within}
 use Rattle.metric.specs.Laws.{MetricLaws}
 use Rattle.hits.specs.Samples.{Sample}
 use Rattle.gnat_theory.specs.Choice.{first_from, first_place, removed}
@@ -15,7 +16,7 @@ use Rattle.gnat_theory.proofs.Shuffling.{same_order, shuffle_behind}
 use Rattle.gnat_rows.specs.declared.Row.{Row}
 use Rattle.gnat_rows.specs.Rows.{HasRow}
 use Rattle.gnat_rows.specs.Shows.{sample_in, HoldsSamples}
-use Rattle.gnat_rows.proofs.Changes.{same_row, nth_within}
+use Rattle.gnat_rows.proofs.Changes.{same_row}
 use Rattle.gnat_rows.proofs.Showing.{holds_append}
 use Rattle.gnat_filing.specs.declared.choosing.Candidate.{Candidate}
 use Rattle.gnat_filing.specs.Choosing.{top, blank, farther_one, rows_of, reach, Candidates, Renewed, CandidateOf, TakesNext, TakesItsNext, Chosen}
@@ -85,7 +86,7 @@ module _ {E : Type 0} (dist : E → E → ℕ) (small : (e f : E) → dist e f �
     pub cand_within : (cs : List Candidate) (xs : List (Sample E)) (k : ℕ) → k < length cs → Candidates dist rows ps cs xs → (get_or cs k blank).row < length rows
     cand_within [] xs k l h = absurd (omega arith)
     cand_within (c ∷ cs) [] k l h = absurd h
-    cand_within (c ∷ cs) (x ∷ xs) zero l h = nth_within rows c.row h.0.0 h.0.1
+    cand_within (c ∷ cs) (x ∷ xs) zero l h = slice_get_within rows c.row h.0.0 h.0.1
     cand_within (c ∷ cs) (x ∷ xs) (suc k) l h = cand_within cs xs k (omega arith) h.3
 
     pub cand_holds : (cs : List Candidate) (xs : List (Sample E)) → Candidates dist rows ps cs xs → HoldsSamples rows (rows_of cs) xs

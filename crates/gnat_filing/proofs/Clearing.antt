@@ -4,13 +4,13 @@ use Rattle.std.specs.List.{slice_get}
 use Rattle.std.proofs.lemmas.List.{take_more, get_or-take, length-take-le}
 use Rattle.std.proofs.lemmas.Bool.{cases_eq}
 use Rattle.hits.specs.Samples.{Sample}
+use Rattle.hits.proofs.Among.{all_left, all_right}
 use Rattle.gnat_theory.specs.Splitting.{points, bare}
 use Rattle.gnat_rows.specs.declared.Branch.{Branch}
 use Rattle.gnat_rows.specs.declared.Row.{Row}
 use Rattle.gnat_rows.specs.Rows.{HasRow, empty, with_node, with_marked}
 use Rattle.gnat_rows.specs.Shows.{sample_in, ranges, column, HoldsSamples, ShowsParts}
 use Rattle.gnat_rows.specs.Lying.{Absent, OnlyIn}
-use Rattle.gnat_rows.proofs.Apart.{all_left, all_right}
 use Rattle.gnat_rows.proofs.Changes.{nth_there, nth_changed, nth_unchanged, same_row}
 use Rattle.gnat_rows.proofs.Only.{only_wider, only_then, only_node, only_marked}
 use Rattle.gnat_filing.specs.Filling.{Cleared, Clears, Bare}

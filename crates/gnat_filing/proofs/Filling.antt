@@ -22,7 +22,8 @@ use Rattle.gnat_rows.specs.Shows.{sample_in, HoldsSamples, Shows}
 use Rattle.gnat_rows.proofs.Apart.{distinct_left, distinct_shuffle}
 use Rattle.gnat_rows.proofs.Only.{only_none, only_wider, only_then, holds_kept}
 use Rattle.gnat_rows.proofs.Showing.{holds_within, holds_length}
-use Rattle.gnat_filing.specs.Filed.{depth, deepest, Ready, LeavesTree}
+use Rattle.gnat_rows.specs.Trees.{height, height_parts}
+use Rattle.gnat_filing.specs.Filed.{Ready, LeavesTree}
 use Rattle.gnat_filing.specs.Filling.{Lengthened, Fillable}
 use Rattle.gnat_filing.proofs.Leaving.{is_leaf, leaf_longer}
 
@@ -40,7 +41,7 @@ next_front is i fs l =
 
 module _ {E : Type 0} where
   -- a tree with no branch is shown by a leaf
-  pub flat_leaf : (rows : List (Row E)) (n : Node) (t : Tree E) (fs : List ℕ) → depth t < 1 → Shows rows n t fs → (l : LeafRecord) × (n ≡ node.Leaf l)
+  pub flat_leaf : (rows : List (Row E)) (n : Node) (t : Tree E) (fs : List ℕ) → height t < 1 → Shows rows n t fs → (l : LeafRecord) × (n ≡ node.Leaf l)
   flat_leaf rows n (leaf xs) fs d s = (s.0, s.1)
   flat_leaf rows n (branch ps) fs d s = absurd (omega arith)
 
@@ -71,19 +72,19 @@ module _ {E : Type 0} where
   module _ (dist : E → E → ℕ) (s : Sample E) where
     mutual
       -- filing in leaves makes no tree deeper
-      filed_depth : (t : Tree E) → depth (filed dist leaf s t) ≡ depth t
-      filed_depth (leaf xs) = refl
-      filed_depth (branch ps) = ap suc (under_depth (distances dist (pivots ps) s) (nearest (distances dist (pivots ps) s)) ps)
+      filed_height : (t : Tree E) → height (filed dist leaf s t) ≡ height t
+      filed_height (leaf xs) = refl
+      filed_height (branch ps) = ap suc (under_height (distances dist (pivots ps) s) (nearest (distances dist (pivots ps) s)) ps)
 
-      under_depth : (ds : List ℕ) (n : ℕ) (ps : Parts E) → deepest (filed_under dist leaf s ds n ps) ≡ deepest ps
-      under_depth ds n none = refl
-      under_depth ds zero (part p col t rest) = ap (λ z. max z (deepest rest)) (filed_depth t)
-      under_depth ds (suc n) (part p col t rest) = ap (max (depth t)) (under_depth ds n rest)
+      under_height : (ds : List ℕ) (n : ℕ) (ps : Parts E) → height_parts (filed_under dist leaf s ds n ps) ≡ height_parts ps
+      under_height ds n none = refl
+      under_height ds zero (part p col t rest) = ap (λ z. max z (height_parts rest)) (filed_height t)
+      under_height ds (suc n) (part p col t rest) = ap (max (height t)) (under_height ds n rest)
 
   module _ (dist : E → E → ℕ) where
-    all_depth : (xs : List (Sample E)) (t : Tree E) → depth (filed_all dist leaf xs t) ≡ depth t
-    all_depth [] t = refl
-    all_depth (x ∷ xs) t = all_depth xs (filed dist leaf x t) ∙ filed_depth dist x t
+    all_height : (xs : List (Sample E)) (t : Tree E) → height (filed_all dist leaf xs t) ≡ height t
+    all_height [] t = refl
+    all_height (x ∷ xs) t = all_height xs (filed dist leaf x t) ∙ filed_height dist x t
 
     filed_last : (xs : List (Sample E)) (x : Sample E) (t : Tree E) → filed_all dist leaf (xs ++ (x ∷ [])) t ≡ filed dist leaf x (filed_all dist leaf xs t)
     filed_last [] x t = refl
@@ -110,7 +111,7 @@ module _ {E : Type 0} where
           shows = made.shows;
           apart = (all_shuffle (λ k. at ≡ k → ⊥) (take i is ++ fs) made.lies back apart.0, distinct_shuffle (take i is ++ fs) made.lies back apart.1);
           within = All-get_or (λ k. k < length rows₁) is i 0 l (holds_within rows₁ is xs (holds_kept rows rows₁ (take i is ++ fs) is xs made.only f.holds));
-          deep = omega (arith, all_depth dist (take i xs) t, f.flat);
+          deep = omega (arith, all_height dist (take i xs) t, f.flat);
           branching = filed_all_branching dist leaf degree (λ ys. tt) (take i xs) t f.branching;
           leaves = leaves_more (0 + length (take i xs)) 31 (omega arith) (filed_all dist leaf (take i xs) t) (leaf_filed_leaves dist 0 (take i xs) t f.leaves);
         }

@@ -2,7 +2,9 @@
 use Rattle.std.proofs.Common.{◌≡◌, ℕ, zero, suc, ◌-◌, ◌<◌, ◌≤◌, List, [], ◌∷◌, ◌++◌, length, get_or, take, Some, sym, refl, ap, ◌∙◌, subst, arith}
 use Rattle.std.specs.List.{slice_get, AllByRecursion}
 use Rattle.std.proofs.ByRecursion.{All-weaker}
+use Rattle.std.proofs.lemmas.Option.{slice_get_within}
 use Rattle.hits.specs.Samples.{Sample}
+use Rattle.hits.proofs.Among.{all_left, all_right}
 use Rattle.gnat_theory.specs.Tree.{Tree, Parts, Pivot, Range, pivots}
 use Rattle.gnat_theory.specs.Tree.Tree.{branch}
 use Rattle.gnat_theory.specs.Tree.Parts.{none, part}
@@ -17,11 +19,12 @@ use Rattle.gnat_rows.specs.declared.Row.{Row}
 use Rattle.gnat_rows.specs.Rows.{with_node}
 use Rattle.gnat_rows.specs.Shows.{column, Shows, ShowsParts}
 use Rattle.gnat_rows.specs.Lying.{Absent, Distinct, OnlyIn}
-use Rattle.gnat_rows.proofs.Apart.{all_left, all_right, distinct_left, distinct_across, distinct_shuffle, arranged_with, arranged_back}
-use Rattle.gnat_rows.proofs.Changes.{nth_within, nth_changed, nth_unchanged}
+use Rattle.gnat_rows.proofs.Apart.{distinct_left, distinct_across, distinct_shuffle, arranged_with, arranged_back}
+use Rattle.gnat_rows.proofs.Changes.{nth_changed, nth_unchanged}
 use Rattle.gnat_rows.proofs.Only.{only_wider, only_then, only_node}
 use Rattle.gnat_rows.proofs.Showing.{Same, frame, shows_branch, Child, child, of_child, replaced, Mends, all_measured}
-use Rattle.gnat_filing.specs.Filed.{depth, deepest, Ready, LeavesTree}
+use Rattle.gnat_rows.specs.Trees.{height, height_parts}
+use Rattle.gnat_filing.specs.Filed.{Ready, LeavesTree}
 use Rattle.gnat_filing.specs.Widening.{Pivoted, Measured, Approaches}
 
 module _ {E : Type 0} (rows : List (Row E)) (b : BranchRecord) (at : ℕ) (ps : Parts E) (fs : List ℕ) where
@@ -38,7 +41,7 @@ module _ {E : Type 0} (rows : List (Row E)) (b : BranchRecord) (at : ℕ) (ps : 
     nth_child j l = child rows b 0 j j ps fs (omega arith) (omega (arith, r.count)) r.parts
 
     pub pivoted : Pivoted rows b
-    pivoted = record { some = r.some; most = r.most; within = λ k l. let c = nth_child k l in nth_within rows (get_or b.pivots k 0) c.row c.there }
+    pivoted = record { some = r.some; most = r.most; within = λ k l. let c = nth_child k l in slice_get_within rows (get_or b.pivots k 0) c.row c.there }
 
     pub distances_are : (dist : E → E → ℕ) (s : Sample E) (ds : List ℕ) → Measured dist rows b s.element ds → take b.count ds ≡ distances dist (pivots ps) s
     distances_are dist s ds m =
@@ -130,7 +133,7 @@ module _ {E : Type 0} (degree bucket left : ℕ) (rows : List (Row E)) (n : Node
     pub tree : t ≡ branch parts
     pub ready : ReadyBranch rows b at parts fs
     pub within : at < length rows
-    pub deep : suc (deepest parts) < left
+    pub deep : suc (height_parts parts) < left
     pub branching : BranchingParts degree parts
     pub leaves : LeavesParts bucket parts
 
@@ -143,7 +146,7 @@ module _ {E : Type 0} (degree bucket left : ℕ) (rows : List (Row E)) (n : Node
         tree = s.1;
         ready = record { parts = s.4; count = s.2; most = s.3; some = omega (arith, s.2, branching.0); apart = r.apart };
         within = r.within;
-        deep = subst (λ z. depth z < left) s.1 r.deep;
+        deep = subst (λ z. height z < left) s.1 r.deep;
         branching = branching.1;
         leaves = subst (Leaves bucket) s.1 r.leaves;
       }
@@ -155,7 +158,7 @@ module _ {E : Type 0} (degree bucket left : ℕ) (rows : List (Row E)) (n : Node
           shows = c.shows;
           apart = below_apart rows b at i.parts fs i.ready j c;
           within = i.within;
-          deep = of_child (λ u. depth u < left - 1) (λ ps. deepest ps < left - 1) (λ p col u rest h. (omega arith, omega arith)) j i.parts c.tree c.is_child (omega (arith, i.deep));
+          deep = of_child (λ u. height u < left - 1) (λ ps. height_parts ps < left - 1) (λ p col u rest h. (omega arith, omega arith)) j i.parts c.tree c.is_child (omega (arith, i.deep));
           branching = of_child (Branching degree) (BranchingParts degree) (λ p col u rest h. h) j i.parts c.tree c.is_child i.branching;
           leaves = of_child (Leaves bucket) (LeavesParts bucket) (λ p col u rest h. h) j i.parts c.tree c.is_child i.leaves;
         }

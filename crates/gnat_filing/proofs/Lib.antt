@@ -7,4 +7,3 @@ pub mod Clearing
 pub mod Filling
 pub mod Assembling
 pub mod Shrinking
-pub mod Depths

@@ -1,8 +1,8 @@
 -- What the loops over a branch's pivots leave. Assumes nothing.
-use Rattle.std.proofs.Common.{◌≡◌, ℕ, zero, suc, ◌+◌, ◌<◌, ◌≤◌, min, max, Bool, true, false, cond, List, [], ◌∷◌, length, get_or, take, drop, sym, refl, ap, ◌∙◌, not-suc-le-zero, add-one, arith}
+use Rattle.std.proofs.Common.{◌≡◌, ℕ, zero, suc, ◌+◌, ◌<◌, ◌≤◌, min, max, Bool, true, false, List, [], ◌∷◌, length, get_or, take, drop, sym, refl, ap, ◌∙◌, not-suc-le-zero, add-one, arith}
 use Rattle.std.proofs.lemmas.List.{drop_more, drop_all}
 use Rattle.std.proofs.lemmas.Bool.{cond-true, cond-false}
-use Rattle.gnat_theory.specs.Choice.{first_from, first_place}
+use Rattle.gnat_theory.specs.Choice.{first_from}
 use Rattle.gnat_theory.specs.Filing.{widened}
 use Rattle.gnat_rows.specs.Shows.{ranges}
 
@@ -15,17 +15,6 @@ some_of (x ∷ xs) l = x
 module _ {X : Type 0} (before : X → X → Bool) (xs : List X) where
   abbrev pub so_far : X → ℕ → ℕ → ℕ
   so_far d j i = first_from before j (get_or xs j d) i (drop i xs)
-
-  pub first_start : (d : X) → 1 ≤ length xs → first_place before xs ≡ so_far d 0 0
-  first_start d l = go xs l
-    where
-      either : (b : Bool) (n : ℕ) → n ≡ cond b n n
-      either true n = refl
-      either false n = refl
-
-      go : (ys : List X) → 1 ≤ length ys → first_place before ys ≡ first_from before 0 (get_or ys 0 d) 0 ys
-      go [] l = absurd (not-suc-le-zero l)
-      go (y ∷ ys) l = either (before y y) (first_from before 0 y 1 ys)
 
   ahead : (d : X) (j i : ℕ) → i < length xs → so_far d j i ≡ first_from before j (get_or xs j d) i (get_or xs i d ∷ drop (suc i) xs)
   ahead d j i l = ap (first_from before j (get_or xs j d) i) (drop_more xs i d l ∙ ap (λ m. get_or xs i d ∷ drop m xs) (add-one i))

@@ -5,6 +5,7 @@ use Rattle.std.proofs.ByRecursion.{All-weaker}
 use Rattle.std.proofs.lemmas.List.{append_assoc}
 use Rattle.std.proofs.lemmas.Bool.{cases_eq, eq-eqb, ne_eqb, cond-true, cond-false}
 use Rattle.hits.specs.Samples.{Sample, Among}
+use Rattle.hits.proofs.Among.{all_left, all_right, all_among, among_left, among_right, among_append}
 use Rattle.index.specs.Meaning.{without}
 use Rattle.gnat_theory.specs.Tree.{Tree, Parts, Pivot, sample_of, pivots, gathered_parts, if_standing, always, standing, members}
 use Rattle.gnat_theory.specs.Tree.Tree.{branch}
@@ -15,7 +16,7 @@ use Rattle.gnat_theory.specs.Ranges.{ThroughoutParts, OwnNearest, Placed}
 use Rattle.gnat_theory.specs.Shapes.{Branching, BranchingParts}
 use Rattle.gnat_theory.specs.Shuffles.{Shuffle, Apart}
 use Rattle.gnat_theory.specs.Shuffles.Shuffle.{after, swapped, in_turn}
-use Rattle.gnat_theory.proofs.Pruning.{all_among, among_left, among_right, among_append, part_equal, Other, apart_left, apart_right, others_left, others_right, without_none, marked_none, shrunk_none, shrunk_parts_none}
+use Rattle.gnat_theory.proofs.Pruning.{part_equal, Other, apart_left, apart_right, others_left, others_right, without_none, marked_none, shrunk_none, shrunk_parts_none}
 use Rattle.gnat_theory.proofs.Sublists.{among_sub, apart_sub, one_side, pivot_sub, standing_sub, standing_parts_sub}
 use Rattle.gnat_theory.proofs.Shuffling.{all_shuffle, same_order, shuffle_back, shuffle_before}
 use Rattle.gnat_rows.specs.declared.Branch.{Branch as BranchRecord}
@@ -26,11 +27,11 @@ use Rattle.gnat_rows.specs.declared.Row.{Row}
 use Rattle.gnat_rows.specs.Rows.{with_node, with_marked}
 use Rattle.gnat_rows.specs.Shows.{sample_in, pivot_in, HoldsSamples, Shows, ShowsParts}
 use Rattle.gnat_rows.specs.Lying.{Absent, Distinct, OnlyIn}
-use Rattle.gnat_rows.proofs.Apart.{all_left, all_right, distinct_left, distinct_across, distinct_shuffle, arranged, arranged_back}
+use Rattle.gnat_rows.proofs.Apart.{distinct_left, distinct_across, distinct_shuffle, arranged, arranged_back}
 use Rattle.gnat_rows.proofs.Changes.{nth_changed, nth_unchanged, same_row}
 use Rattle.gnat_rows.proofs.Only.{only_none, only_wider, only_then, only_node, only_marked}
 use Rattle.gnat_rows.proofs.Showing.{Same, frame, shows_leaf, shows_branch, Child, ChildIs, child_holding, of_child, replaced, parts_within, held_among, row_among}
-use Rattle.gnat_filing.specs.Filed.{depth, deepest}
+use Rattle.gnat_rows.specs.Trees.{height, height_parts}
 use Rattle.gnat_filing.specs.Dropping.{without_row, Shortened, Droppable, Drops}
 use Rattle.gnat_filing.specs.Widening.{Measured}
 use Rattle.gnat_filing.proofs.Level.{ReadyBranch, nth_child, distances_are, replaced_length}
@@ -38,11 +39,6 @@ use Rattle.gnat_filing.proofs.Level.{ReadyBranch, nth_child, distances_are, repl
 without_absent : (at : ℕ) (is : List ℕ) → Absent at is → without_row at is ≡ is
 without_absent at [] a = refl
 without_absent at (i ∷ is) a = cond-true (not (eqb i at)) (i ∷ without_row at is) (without_row at is) (ap not (ne_eqb i at (λ e. a.0 (sym e)))) ∙ ap (λ z. i ∷ z) (without_absent at is a.1)
-
-among_absent : (i : ℕ) (is : List ℕ) → Among i is → Absent i is → ⊥
-among_absent i [] m a = m
-among_absent i (j ∷ is) (inl e) a = a.0 e
-among_absent i (j ∷ is) (inr m) a = among_absent i is m a.1
 
 without_front : (at : ℕ) (is : List ℕ) → Among at is → Distinct is → Shuffle ℕ (at ∷ without_row at is) is
 without_front at [] m d = absurd m
@@ -236,7 +232,7 @@ module _ {E : Type 0} (dist : E → E → ℕ) (degree left : ℕ) (rows : List 
     pub parts : Parts E
     pub tree : t ≡ branch parts
     pub ready : ReadyBranch rows b (length rows) parts fs
-    pub deep : suc (deepest parts) < left
+    pub deep : suc (height_parts parts) < left
     pub branching : BranchingParts degree parts
     pub placed : ThroughoutParts (OwnNearest dist) (pivots parts) 0 parts
     pub numbers : Apart (gathered_parts if_standing parts)
@@ -252,7 +248,7 @@ module _ {E : Type 0} (dist : E → E → ℕ) (degree left : ℕ) (rows : List 
         parts = s.0;
         tree = s.1;
         ready = record { parts = s.4; count = s.2; most = s.3; some = omega (arith, s.2, branching.0, d.some); apart = (beyond, d.apart) };
-        deep = subst (λ z. depth z < left) s.1 d.deep;
+        deep = subst (λ z. height z < left) s.1 d.deep;
         branching = branching.1;
         placed = subst (Placed dist) s.1 d.placed;
         numbers = apart_sub (gathered_parts if_standing s.0) (gathered_parts always s.0) (standing_parts_sub s.0) (subst (λ z. Apart (members z)) s.1 d.numbers);
@@ -324,7 +320,7 @@ module _ {E : Type 0} (dist : E → E → ℕ) (degree left : ℕ) (rows : List 
             there = d.there;
             lies = mine;
             stands = below_stands;
-            deep = of_child (λ u. depth u < left - 1) (λ qs. deepest qs < left - 1) (λ p col u rest h. (omega arith, omega arith)) j ps c.tree c.is_child (omega (arith, i.deep));
+            deep = of_child (λ u. height u < left - 1) (λ qs. height_parts qs < left - 1) (λ p col u rest h. (omega arith, omega arith)) j ps c.tree c.is_child (omega (arith, i.deep));
             some = d.some;
             branching = of_child (Branching degree) (BranchingParts degree) (λ p col u rest h. h) j ps c.tree c.is_child i.branching;
             placed = (nearest_here dist (pivots ps) 0 j ps c.tree c.is_child i.placed).1;

@@ -1,10 +1,8 @@
 -- Filing a sample that stands in a row of its own below a node.
-use Rattle.std.specs.Prelude.{◌≡◌, ℕ, suc, ◌<◌, ◌≤◌, max, List, [], ◌∷◌, ◌++◌, length, Some}
+use Rattle.std.specs.Prelude.{◌≡◌, ℕ, ◌<◌, ◌≤◌, List, [], ◌∷◌, ◌++◌, length, Some}
 use Rattle.std.specs.List.{slice_get}
 use Rattle.hits.specs.Samples.{Sample}
-use Rattle.gnat_theory.specs.Tree.{Tree, Parts}
-use Rattle.gnat_theory.specs.Tree.Tree.{leaf, branch}
-use Rattle.gnat_theory.specs.Tree.Parts.{none, part}
+use Rattle.gnat_theory.specs.Tree.{Tree}
 use Rattle.gnat_theory.specs.Splitting.{grown}
 use Rattle.gnat_theory.specs.Shapes.{Branching, Leaves}
 use Rattle.gnat_theory.specs.Shuffles.{Shuffle}
@@ -13,24 +11,15 @@ use Rattle.gnat_rows.specs.declared.Node.{Node}
 use Rattle.gnat_rows.specs.declared.Row.{Row}
 use Rattle.gnat_rows.specs.Shows.{sample_in, held, HoldsSamples, Shows}
 use Rattle.gnat_rows.specs.Lying.{Distinct, OnlyIn}
+use Rattle.gnat_rows.specs.Trees.{height}
 
 module _ {E : Type 0} where
-  -- how many branches deep a tree is
-  abbrev mutual
-    pub depth : Tree E → ℕ
-    depth (leaf xs) = 0
-    depth (branch ps) = suc (deepest ps)
-
-    pub deepest : Parts E → ℕ
-    deepest none = 0
-    deepest (part p column t rest) = max (depth t) (deepest rest)
-
   -- the rows show the tree t from the node on, in fs, and the row `at` is another
   pub record Ready (degree bucket left : ℕ) (rows : List (Row E)) (node : Node) (at : ℕ) (t : Tree E) (fs : List ℕ) : Type 0 where
     pub shows : Shows rows node t fs
     pub apart : Distinct (at ∷ fs)
     pub within : at < length rows
-    pub deep : depth t < left
+    pub deep : height t < left
     pub branching : Branching degree t
     pub leaves : Leaves bucket t
 

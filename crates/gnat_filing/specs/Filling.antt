@@ -14,7 +14,8 @@ use Rattle.gnat_rows.specs.declared.Row.{Row}
 use Rattle.gnat_rows.specs.Rows.{HasRow, empty}
 use Rattle.gnat_rows.specs.Shows.{sample_in, ranges, column, HoldsSamples, Shows}
 use Rattle.gnat_rows.specs.Lying.{Distinct, OnlyIn}
-use Rattle.gnat_filing.specs.Filed.{depth, Ready, LeavesTree}
+use Rattle.gnat_rows.specs.Trees.{height}
+use Rattle.gnat_filing.specs.Filed.{Ready, LeavesTree}
 use Rattle.gnat_filing.specs.Leaf.{Pushed}
 
 -- a leaf with one row more
@@ -44,7 +45,7 @@ module _ {E : Type 0} where
     pub few : length is ≤ 32
     pub branching : Branching degree t
     pub leaves : Leaves 0 t
-    pub flat : depth t < 2
+    pub flat : height t < 2
 
   abbrev pub SomeFillable : List (Row E) → Branch → List ℕ → Type 0
   SomeFillable rows b is = (degree : ℕ) × (t : Tree E) × (fs : List ℕ) × (xs : List (Sample E)) × Fillable degree rows b is t fs xs

@@ -2,7 +2,8 @@
 ghost use Rattle.std.specs.Prelude.{◌≡◌, ℕ, ◌+◌, ◌<◌, ◌≤◌, length, slice_index};
 ghost use Rattle.gnat_theory.specs.Splitting.{split as split_of};
 ghost use Rattle.gnat_rows.specs.declared.Leaf.{Leaf as LeafRecord};
-ghost use Rattle.gnat_rows.specs.declared.Node.TheVariants.{Leaf as leaf_node};
+ghost use Rattle.gnat_rows.specs.declared.Branch.{Branch as BranchRecord};
+ghost use Rattle.gnat_rows.specs.declared.Node.TheVariants.{Leaf as leaf_node, Branch as branch_node};
 ghost use Rattle.gnat_filing.specs.Choosing.{rows_of};
 ghost use Rattle.gnat_filing.specs.Filed.{LeafFileable, Becomes};
 ghost use Rattle.gnat_filing.specs.Filling.{Lengthened, Clears, Bare, BelowFileable, FilesBelow, SomeFillable, Fills};
@@ -24,10 +25,11 @@ pub fn pushed(l: Leaf, at: u16) -> Leaf
     longer
 }
 
-// The same of a node that is a leaf.
+// The same of a node that is a leaf; a branch stays.
 fn lengthened(node: Node, at: u16) -> Node
     requires { (l : LeafRecord) → node ≡ leaf_node l → l.count < 32 }
-    ensures { Lengthened node result at }
+    ensures leaf { Lengthened node result at }
+    ensures branch { (b : BranchRecord) → node ≡ branch_node b → result ≡ node }
 {
     match node {
         Node::Leaf(l) => Node::Leaf(pushed(l, at)),

@@ -11,12 +11,11 @@ use Rattle.gnat_rows.specs.declared.Node.{Node}
 use Rattle.gnat_rows.specs.declared.Row.{Row}
 use Rattle.gnat_rows.specs.Lying.{Absent, OnlyIn}
 use Rattle.gnat_rows.specs.Rows.{changed}
-use Rattle.gnat_rows.proofs.Changes.{nth_unchanged}
+use Rattle.gnat_rows.proofs.Changes.{nth_unchanged, nth_there}
 use Rattle.gnat_rows.specs.Shows.{HoldsSamples, Shows, ShowsParts, sample_in}
 use Rattle.gnat_rows.specs.Trees.{sample_on, samples_at}
 use Rattle.gnat_order.specs.Order.{Within, places, at_place, placed}
 use Rattle.gnat_order.proofs.Places.{place_of}
-use Rattle.gnat_order.proofs.Numbers.{there}
 
 module _ {E : Type 0} where
   -- a row with other places
@@ -49,7 +48,7 @@ module _ {E : Type 0} where
     pub samples_same : (is : List ℕ) → Within is (length rows) → samples_at new is ≡ samples_at rows is
     samples_same [] w = refl
     samples_same (i ∷ is) w =
-        let r = there rows i w.0 in
+        let r = nth_there rows i w.0 in
         let n = same i r.0 r.1 in
         ap (λ o. sample_on o (samples_at new is)) n.1 ∙ (ap (λ x. x ∷ samples_at new is) n.2 ∙ (ap (λ z. sample_in r.0 ∷ z) (samples_same is w.1) ∙ ap (λ o. sample_on o (samples_at rows is)) (sym r.1)))
 
@@ -64,7 +63,7 @@ module _ {E : Type 0} where
     -- and all places
     pub places_only : places new ≡ places rows
     places_only = ext_get_or 0 (places new) (places rows) (length-map new _ ∙ (long ∙ sym (length-map rows _)))
-        (λ i l. let r = there rows i (omega (arith, length-map new (λ (x : Row E). x.place))) in let n = only.samples i r.0 r.1 in place_of new i n.0 n.1 ∙ (n.2.1 ∙ sym (place_of rows i r.0 r.1)))
+        (λ i l. let r = nth_there rows i (omega (arith, length-map new (λ (x : Row E). x.place))) in let n = only.samples i r.0 r.1 in place_of new i n.0 n.1 ∙ (n.2.1 ∙ sym (place_of rows i r.0 r.1)))
 
   pub samples_append : (rows : List (Row E)) (is js : List ℕ) → samples_at rows (is ++ js) ≡ samples_at rows is ++ samples_at rows js
   samples_append rows [] js = refl

@@ -1,10 +1,12 @@
 -- What exchanging two of a list, or moving one behind others, leaves of it. Assumes nothing.
 use Rattle.std.proofs.Common.{◌≡◌, ℕ, zero, suc, ◌+◌, ◌-◌, ◌<◌, ◌≤◌, List, [], ◌∷◌, ◌++◌, length, get_or, take, drop, set, sym, refl, ap, ◌∙◌, subst, arith, drop-cons}
-use Rattle.std.proofs.lemmas.List.{set_split, set-get_or, append-nil, append_assoc, take-append-drop, drop-take, drop-drop, get_or-take, length-set, length-take-le, take-take, length-append, length-take, length-drop, take-set-le, get_or-set_same, take_at, get_or_at}
+use Rattle.std.proofs.lemmas.List.{set_split, set-get_or, append-nil, append_assoc, take-append-drop, drop-drop, get_or-take, length-set, length-take-le, take-take, length-append, length-take, length-drop, take-set-le, get_or-set_same, get_or_at}
+use Rattle.hits.specs.Lists.{closed}
+use Rattle.hits.proofs.Closing.{closed_pieces, closed_parts}
 use Rattle.gnat_theory.specs.Shuffles.{Shuffle}
 use Rattle.gnat_theory.specs.Shuffles.Shuffle.{after, in_turn}
-use Rattle.gnat_theory.proofs.Shuffling.{shuffle_equal, shuffle_back, shuffle_behind, shuffle_before, shuffle_front, length_shuffle}
-use Rattle.gnat_order.specs.Order.{swapped, behind}
+use Rattle.gnat_theory.proofs.Shuffling.{shuffle_equal, shuffle_back, shuffle_behind, shuffle_before, shuffle_front}
+use Rattle.gnat_order.specs.Order.{swapped}
 
 pub swapped_same : (i : ℕ) (ps : List ℕ) → swapped i i ps ≡ ps
 swapped_same i ps = ap (λ z. set z i (get_or ps i 0)) (set-get_or ps i 0) ∙ set-get_or ps i 0
@@ -48,21 +50,14 @@ enlisted s (suc m) ps l =
       is = swapped_apart s m ps l ∙ ap (λ z. take s ps ++ (get_or ps (s + suc m) 0 ∷ z)) (sym (append_assoc mid (get_or ps s 0 ∷ []) back));
     }
 
--- the one at `at` taken out of the first `count` goes behind them
-pub taken_behind : (at count : ℕ) (ps : List ℕ) → at < count → count ≤ length ps → behind at count ps ≡ (take at ps ++ drop (suc at) (take count ps)) ++ (get_or ps at 0 ∷ drop count ps)
-taken_behind at count ps l b =
-    let e : suc at + (count - suc at) ≡ count = omega arith in
-    let mid : take (count - suc at) (drop (suc at) ps) ≡ drop (suc at) (take count ps) = sym (drop-take (suc at) (count - suc at) ps) ∙ ap (λ k. drop (suc at) (take k ps)) e in
-    ap (λ z. take at ps ++ (z ++ (get_or ps at 0 ∷ drop count ps))) mid ∙ sym (append_assoc (take at ps) (drop (suc at) (take count ps)) (get_or ps at 0 ∷ drop count ps))
-
 -- nothing is lost
-pub shuffled_behind : (at count : ℕ) (ps : List ℕ) → at < count → count ≤ length ps → Shuffle ℕ (behind at count ps) ps
-shuffled_behind at count ps l b =
+pub shuffled_closed : (at count : ℕ) (ps : List ℕ) → at < count → count ≤ length ps → Shuffle ℕ (closed at count ps) ps
+shuffled_closed at count ps l b =
     let mid = take (count - suc at) (drop (suc at) ps) in
     let e : suc at + (count - suc at) ≡ count = omega arith in
     let rest : drop (suc at) ps ≡ mid ++ drop count ps = sym (take-append-drop (count - suc at) (drop (suc at) ps)) ∙ ap (λ z. mid ++ z) (drop-drop (count - suc at) (suc at) ps ∙ ap (λ k. drop k ps) e) in
     let whole : take at ps ++ (get_or ps at 0 ∷ (mid ++ drop count ps)) ≡ ps = ap (λ z. take at ps ++ (get_or ps at 0 ∷ z)) (sym rest) ∙ (ap (λ z. take at ps ++ z) (sym (drop-cons ps at 0 (omega arith))) ∙ take-append-drop at ps) in
-    subst (Shuffle ℕ (behind at count ps)) whole (shuffle_behind (take at ps) (mid ++ (get_or ps at 0 ∷ drop count ps)) (get_or ps at 0 ∷ (mid ++ drop count ps)) (shuffle_front mid (get_or ps at 0) (drop count ps)))
+    subst (λ z. Shuffle ℕ z ps) (sym (closed_pieces at count ps l b 0)) (subst (Shuffle ℕ (take at ps ++ (mid ++ (get_or ps at 0 ∷ drop count ps)))) whole (shuffle_behind (take at ps) (mid ++ (get_or ps at 0 ∷ drop count ps)) (get_or ps at 0 ∷ (mid ++ drop count ps)) (shuffle_front mid (get_or ps at 0) (drop count ps))))
 
 -- nothing is lost by an exchange of a standing place with a free one either
 pub shuffled_enlisted : (s m : ℕ) (ps : List ℕ) → s + m < length ps → Shuffle ℕ (swapped s (s + m) ps) ps
@@ -107,8 +102,8 @@ swapped_firsts s m k ps a b =
     subst (Shuffle ℕ (take k ps)) (sym (take_swapped k s (s + m) ps (omega arith) a)) (shuffle_back _ _ (shuffled_enlisted s m (take k ps) enough))
 
 -- the first k after one of them is moved behind others of them
-pub behind_firsts : (at count k : ℕ) (ps : List ℕ) → at < count → count ≤ k → count ≤ length ps → Shuffle ℕ (take k ps) (take k (behind at count ps))
-behind_firsts at count k ps l a b =
+pub closed_firsts : (at count k : ℕ) (ps : List ℕ) → at < count → count ≤ k → count ≤ length ps → Shuffle ℕ (take k ps) (take k (closed at count ps))
+closed_firsts at count k ps l a b =
     let L = take count ps in
     let x = get_or ps at 0 in
     let size : length L ≡ count = length-take-le count ps b in
@@ -117,18 +112,15 @@ behind_firsts at count k ps l a b =
     let same : take at ps ≡ front = sym (take-take at count ps (omega arith)) in
     let read : get_or L at 0 ≡ x = get_or-take count ps at 0 l in
     let whole : L ≡ front ++ (x ∷ back) = sym (take-append-drop at L) ∙ (ap (λ z. front ++ z) (drop-cons L at 0 (omega arith)) ∙ ap (λ z. front ++ (z ∷ back)) read) in
-    let moved : behind at count ps ≡ ((front ++ back) ++ (x ∷ [])) ++ drop count ps =
-    taken_behind at count ps l b ∙ (ap (λ z. (z ++ back) ++ (x ∷ drop count ps)) same ∙ sym (append_assoc (front ++ back) (x ∷ []) (drop count ps))) in
+    let moved : closed at count ps ≡ ((front ++ back) ++ (x ∷ [])) ++ drop count ps =
+    closed_parts at count ps l b 0 ∙ (ap (λ z. (z ++ back) ++ (x ∷ drop count ps)) same ∙ sym (append_assoc (front ++ back) (x ∷ []) (drop count ps))) in
     let long : length ((front ++ back) ++ (x ∷ [])) ≡ count = simp (length-append, length-take, length-drop) (omega arith) in
     let rest = take (k - count) (drop count ps) in
     let left : take k ps ≡ L ++ rest = ap (take k) (sym (take-append-drop count ps)) ∙ (take_past k L (drop count ps) (omega arith) ∙ ap (λ n. L ++ take (k - n) (drop count ps)) size) in
-    let right : take k (behind at count ps) ≡ ((front ++ back) ++ (x ∷ [])) ++ rest = ap (take k) moved ∙ (take_past k ((front ++ back) ++ (x ∷ [])) (drop count ps) (omega arith) ∙ ap (λ n. ((front ++ back) ++ (x ∷ [])) ++ take (k - n) (drop count ps)) long) in
+    let right : take k (closed at count ps) ≡ ((front ++ back) ++ (x ∷ [])) ++ rest = ap (take k) moved ∙ (take_past k ((front ++ back) ++ (x ∷ [])) (drop count ps) (omega arith) ∙ ap (λ n. ((front ++ back) ++ (x ∷ [])) ++ take (k - n) (drop count ps)) long) in
     let turned : Shuffle ℕ (front ++ (x ∷ back)) ((front ++ back) ++ (x ∷ [])) =
     in_turn _ _ _ (shuffle_front front x back) (shuffle_back _ _ (subst (λ z. Shuffle ℕ ((front ++ back) ++ (x ∷ [])) (x ∷ z)) (append-nil (front ++ back)) (shuffle_front (front ++ back) x []))) in
     subst (Shuffle ℕ (take k ps)) (sym right) (subst (λ z. Shuffle ℕ z (((front ++ back) ++ (x ∷ [])) ++ rest)) (sym (left ∙ ap (λ z. z ++ rest) whole)) (shuffle_before rest _ _ turned))
-
-pub length_behind : (at count : ℕ) (ps : List ℕ) → at < count → count ≤ length ps → length (behind at count ps) ≡ length ps
-length_behind at count ps l b = length_shuffle _ _ (shuffled_behind at count ps l b)
 
 -- those before a place that is exchanged with a later one
 pub take_before : (s m : ℕ) (ps : List ℕ) → take s (swapped s (s + m) ps) ≡ take s ps
@@ -138,16 +130,9 @@ take_before s m ps = take-set-le s (set ps s (get_or ps (s + m) 0)) (s + m) (get
 pub get_or_swapped : (s m : ℕ) (ps : List ℕ) → s + m < length ps → get_or (swapped s (s + m) ps) (s + m) 0 ≡ get_or ps s 0
 get_or_swapped s m ps l = get_or-set_same (set ps s (get_or ps (s + m) 0)) (s + m) (get_or ps s 0) 0 (simp length-set (omega arith))
 
--- the first of the count after one is moved behind them
-pub take_behind : (at count : ℕ) (ps : List ℕ) → at < count → count ≤ length ps → take (count - 1) (behind at count ps) ≡ take at (take count ps) ++ drop (suc at) (take count ps)
-take_behind at count ps l b =
+-- the one that goes behind the others of the first `count` comes right before those that follow
+pub closed_last : (at count : ℕ) (ps : List ℕ) → at < count → count ≤ length ps → get_or (closed at count ps) (count - 1) 0 ≡ get_or ps at 0
+closed_last at count ps l b =
     let left = take at ps ++ drop (suc at) (take count ps) in
     let size : length left ≡ count - 1 = simp (length-append, length-take, length-drop) (omega arith) in
-    ap (take (count - 1)) (taken_behind at count ps l b) ∙ (take_at left (get_or ps at 0 ∷ drop count ps) (count - 1) size ∙ ap (λ z. z ++ drop (suc at) (take count ps)) (sym (take-take at count ps (omega arith))))
-
--- and the one behind
-pub get_or_behind : (at count : ℕ) (ps : List ℕ) → at < count → count ≤ length ps → get_or (behind at count ps) (count - 1) 0 ≡ get_or ps at 0
-get_or_behind at count ps l b =
-    let left = take at ps ++ drop (suc at) (take count ps) in
-    let size : length left ≡ count - 1 = simp (length-append, length-take, length-drop) (omega arith) in
-    ap (λ z. get_or z (count - 1) 0) (taken_behind at count ps l b) ∙ get_or_at left (get_or ps at 0) (drop count ps) 0 (count - 1) size
+    ap (λ z. get_or z (count - 1) 0) (closed_parts at count ps l b 0) ∙ get_or_at left (get_or ps at 0) (drop count ps) 0 (count - 1) size

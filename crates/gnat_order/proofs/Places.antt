@@ -29,12 +29,6 @@ module _ {E : Type 0} where
   length_placed (p ∷ ps) [] = refl
   length_placed (p ∷ ps) (r ∷ rs) = ap suc (length_placed ps rs)
 
-  -- one place is written
-  placed_one : (rows : List (Row E)) (i p : ℕ) → with_place i p rows ≡ placed (set (places rows) i p) rows
-  placed_one [] i p = refl
-  placed_one (r ∷ rs) zero p = ap (λ z. at_place p r ∷ z) (sym (placed_own rs))
-  placed_one (r ∷ rs) (suc i) p = ap (λ z. r ∷ z) (placed_one rs i p)
-
   placed_again : (ps : List ℕ) (rows : List (Row E)) (i p : ℕ) → length ps ≡ length rows → with_place i p (placed ps rows) ≡ placed (set ps i p) rows
   placed_again [] [] i p e = refl
   placed_again [] (r ∷ rs) i p e = absurd (omega arith)

@@ -1,5 +1,5 @@
 -- The list that the place fields of rows make, and what is found by it.
-use Rattle.std.specs.Prelude.{◌≡◌, ℕ, zero, suc, ◌-◌, ◌<◌, List, [], ◌∷◌, ◌++◌, map, take, drop, Some, None, Option, slice_index, slice_set}
+use Rattle.std.specs.Prelude.{◌≡◌, ℕ, zero, suc, ◌<◌, List, [], ◌∷◌, map, take, Some, None, Option, slice_index, slice_set}
 use Rattle.std.specs.List.{AllByRecursion}
 use Rattle.index.specs.Meaning.{element_at}
 use Rattle.gnat_rows.specs.declared.Row.{Row}
@@ -21,10 +21,6 @@ counted n ps = counted_from 0 n ps
 
 abbrev pub swapped : ℕ → ℕ → List ℕ → List ℕ
 swapped i j ps = slice_set (slice_set ps i (slice_index ps j)) j (slice_index ps i)
-
--- the one at `at` behind the others of the first `count`
-abbrev pub behind : ℕ → ℕ → List ℕ → List ℕ
-behind at count ps = take at ps ++ (take (count - suc at) (drop (suc at) ps) ++ (slice_index ps at ∷ drop count ps))
 
 module _ {E : Type 0} where
   abbrev pub places : List (Row E) → List ℕ

@@ -3,10 +3,11 @@
 #![tactic(auto)]
 
 ghost use Rattle.std.specs.Prelude.{◌≡◌, ◌+◌, ◌<◌, ◌≤◌, length, take, slice_index};
+ghost use Rattle.hits.specs.Lists.{closed};
 ghost use Rattle.hits.specs.Samples.{Rising};
 ghost use Rattle.gnat_rows.specs.Rows.{HasRow};
 ghost use Rattle.gnat_rows.specs.Trees.{samples_at};
-ghost use Rattle.gnat_order.specs.Order.{places, placed, Within, Listed, counted, swapped, behind};
+ghost use Rattle.gnat_order.specs.Order.{places, placed, Within, Listed, counted, swapped};
 
 use gnat_rows::{Row, number_in, place_in, put_place};
 use metric::Metric;
@@ -69,7 +70,7 @@ pub fn swap_places<E: Metric>(rows: &mut [Row<E>], i: usize, j: usize)
 // Moves what is listed at `at` behind the others of the first `count`, which keep their order.
 pub fn move_behind<E: Metric>(rows: &mut [Row<E>], at: usize, count: usize)
     requires { (at < count) × (count ≤ length rows.old) }
-    ensures { rows.new ≡ placed (behind at count (places rows.old)) rows.old }
+    ensures { rows.new ≡ placed (closed at count (places rows.old)) rows.old }
 {
     let moved = place_in(rows, at);
     // By place: no iterator lends two neighbours of which one is written, and a place carried along `iter_mut().rev()` leaves

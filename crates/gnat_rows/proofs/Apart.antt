@@ -1,35 +1,19 @@
 -- Lists of rows that are apart. Assumes nothing.
 use Rattle.std.proofs.Common.{◌≡◌, ℕ, List, [], ◌∷◌, ◌++◌, sym}
 use Rattle.std.specs.List.{AllByRecursion}
+use Rattle.hits.proofs.Among.{all_left, all_right, all_both}
 use Rattle.gnat_theory.specs.Shuffles.{Shuffle}
 use Rattle.gnat_theory.specs.Shuffles.Shuffle.{nothing, after, swapped, in_turn}
 use Rattle.gnat_theory.proofs.Shuffling.{all_shuffle, shuffle_front, shuffle_middle, shuffle_back, shuffle_before}
 use Rattle.gnat_rows.specs.Lying.{Absent, Distinct}
 
-module _ {X : Type 0} (P : X → Type 0) where
-  pub all_left : (xs ys : List X) → AllByRecursion P (xs ++ ys) → AllByRecursion P xs
-  all_left [] ys a = tt
-  all_left (x ∷ xs) ys a = (a.0, all_left xs ys a.1)
-
-  pub all_right : (xs ys : List X) → AllByRecursion P (xs ++ ys) → AllByRecursion P ys
-  all_right [] ys a = a
-  all_right (x ∷ xs) ys a = all_right xs ys a.1
-
-  pub all_always : ((x : X) → P x) → (xs : List X) → AllByRecursion P xs
-  all_always f [] = tt
-  all_always f (x ∷ xs) = (f x, all_always f xs)
-
-pub all_both : {X : Type 0} (P Q R : X → Type 0) → ((x : X) → P x → Q x → R x) → (xs : List X) → AllByRecursion P xs → AllByRecursion Q xs → AllByRecursion R xs
-all_both P Q R f [] a b = tt
-all_both P Q R f (x ∷ xs) a b = (f x a.0 b.0, all_both P Q R f xs a.1 b.1)
+all_always : {X : Type 0} (P : X → Type 0) → ((x : X) → P x) → (xs : List X) → AllByRecursion P xs
+all_always P f [] = tt
+all_always P f (x ∷ xs) = (f x, all_always P f xs)
 
 pub distinct_left : (xs ys : List ℕ) → Distinct (xs ++ ys) → Distinct xs
 distinct_left [] ys d = tt
 distinct_left (x ∷ xs) ys d = (all_left (λ j. x ≡ j → ⊥) xs ys d.0, distinct_left xs ys d.1)
-
-pub distinct_right : (xs ys : List ℕ) → Distinct (xs ++ ys) → Distinct ys
-distinct_right [] ys d = d
-distinct_right (x ∷ xs) ys d = distinct_right xs ys d.1
 
 -- what comes behind is none of those before
 pub distinct_across : (xs ys : List ℕ) → Distinct (xs ++ ys) → AllByRecursion (λ y. Absent y xs) ys

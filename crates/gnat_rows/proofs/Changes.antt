@@ -29,12 +29,7 @@ module _ {E : Type 0} where
   nth_unchanged (x ∷ xs) (suc i) zero f n = refl
   nth_unchanged (x ∷ xs) (suc i) (suc j) f n = nth_unchanged xs i j f (λ e. n (ap suc e))
 
-  -- a row that is there is within the list
-  pub nth_within : (rows : List (Row E)) (i : ℕ) (r : Row E) → slice_get rows i ≡ Some r → i < length rows
-  nth_within [] i r e = let z : ◌≡◌ {A = ℕ} 0 1 = cc in absurd (omega arith)
-  nth_within (x ∷ xs) zero r e = omega arith
-  nth_within (x ∷ xs) (suc i) r e = omega (arith, nth_within xs i r e)
-
+  -- a row that is within the list is there
   pub nth_there : (rows : List (Row E)) (i : ℕ) → i < length rows → (r : Row E) × (slice_get rows i ≡ Some r)
   nth_there [] i l = absurd (omega arith)
   nth_there (x ∷ xs) zero l = (x, refl)

@@ -4,12 +4,13 @@ use Rattle.std.proofs.Common.{◌≡◌, ℕ, zero, suc, ◌+◌, ◌<◌, ◌�
 use Rattle.std.specs.List.{slice_get, AllByRecursion}
 use Rattle.std.proofs.lemmas.List.{append_assoc, drop_more}
 use Rattle.std.proofs.ByRecursion.{All-append}
+use Rattle.std.proofs.lemmas.Option.{slice_get_within}
 use Rattle.hits.specs.Samples.{Sample, Among}
+use Rattle.hits.proofs.Among.{all_left, all_right, among_left, among_right, among_append}
 use Rattle.gnat_theory.specs.Tree.{Tree, Parts, Pivot, Range, pivots, members, gathered, gathered_parts, always}
 use Rattle.gnat_theory.specs.Tree.Tree.{leaf, branch}
 use Rattle.gnat_theory.specs.Tree.Parts.{none, part}
 use Rattle.gnat_theory.specs.Filing.{distances}
-use Rattle.gnat_theory.proofs.Pruning.{among_left, among_right, among_append}
 use Rattle.gnat_rows.specs.declared.Leaf.{Leaf as LeafRecord}
 use Rattle.gnat_rows.specs.declared.Branch.{Branch as BranchRecord}
 use Rattle.gnat_rows.specs.declared.Node.{Node}
@@ -17,8 +18,7 @@ use Rattle.gnat_rows.specs.declared.Node.TheVariants as node
 use Rattle.gnat_rows.specs.declared.Row.{Row}
 use Rattle.gnat_rows.specs.Rows.{HasRow}
 use Rattle.gnat_rows.specs.Shows.{sample_in, pivot_in, held, column, HoldsSamples, Shows, ShowsParts}
-use Rattle.gnat_rows.proofs.Apart.{all_left, all_right}
-use Rattle.gnat_rows.proofs.Changes.{nth_within, same_row}
+use Rattle.gnat_rows.proofs.Changes.{same_row}
 
 module _ {E : Type 0} (rows rows' : List (Row E)) where
   -- the row is as it was
@@ -69,7 +69,7 @@ module _ {E : Type 0} (rows : List (Row E)) where
   holds_within [] [] h = tt
   holds_within [] (x ∷ xs) h = tt
   holds_within (i ∷ is) [] h = absurd h
-  holds_within (i ∷ is) (x ∷ xs) h = (nth_within rows i h.0 h.1, holds_within is xs h.3)
+  holds_within (i ∷ is) (x ∷ xs) h = (slice_get_within rows i h.0 h.1, holds_within is xs h.3)
 
   pub holds_length : (fs : List ℕ) (xs : List (Sample E)) → HoldsSamples rows fs xs → length fs ≡ length xs
   holds_length [] [] h = refl
@@ -93,7 +93,7 @@ module _ {E : Type 0} (rows : List (Row E)) where
     parts_within b j none fs s = subst (AllByRecursion (λ i. i < length rows)) (sym s) tt
     parts_within b j (part p col t rest) fs s =
         subst (AllByRecursion (λ i. i < length rows)) (sym s.8)
-        (nth_within rows (get_or b.pivots j 0) s.0 s.3, All-append (λ i. i < length rows) s.1 s.2 (shows_within s.0.node t s.1 s.6) (parts_within b (suc j) rest s.2 s.7))
+        (slice_get_within rows (get_or b.pivots j 0) s.0 s.3, All-append (λ i. i < length rows) s.1 s.2 (shows_within s.0.node t s.1 s.6) (parts_within b (suc j) rest s.2 s.7))
 
   mutual
     -- in as many rows as it has members

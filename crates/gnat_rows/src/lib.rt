@@ -84,13 +84,6 @@ pub fn number_in<E: Metric>(rows: &[Row<E>], at: usize) -> u16
     rows[at].number
 }
 
-pub fn marked_in<E: Metric>(rows: &[Row<E>], at: usize) -> bool
-    requires { at < length rows.now }
-    ensures { HasRow rows.now at (λ row. result ≡ row.marked) }
-{
-    rows[at].marked
-}
-
 pub fn place_in<E: Metric>(rows: &[Row<E>], at: usize) -> u16
     requires { at < length rows.now }
     ensures { HasRow rows.now at (λ row. result ≡ row.place) }

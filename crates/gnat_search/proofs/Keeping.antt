@@ -8,15 +8,14 @@ use Rattle.std.specs.List.{slice_get}
 use Rattle.hits.specs.declared.Hit.{Hit}
 use Rattle.hits.specs.Order.{Sorted, put}
 use Rattle.hits.specs.Lists.{over}
-use Rattle.hits.proofs.Putting.{length_put}
-use Rattle.hits.proofs.Keeping.{keep_front, keep_put, keep_more}
-use Rattle.gnat_theory.specs.Searching.{State, kth}
-use Rattle.gnat_theory.proofs.Ordering.{put_sorted}
-use Rattle.gnat_theory.proofs.Steps.{kth_there, kth_none, take_sorted, nearest_sorted}
+use Rattle.hits.proofs.Putting.{length_put, put_sorted}
+use Rattle.hits.proofs.Keeping.{keep_one, keep_count}
+use Rattle.gnat_theory.specs.Searching.{State, kth, counted_in}
+use Rattle.gnat_theory.proofs.Steps.{kth_there, kth_none, nearest_sorted}
 use Rattle.gnat_search.specs.declared.Aim.{Aim}
 use Rattle.gnat_search.specs.declared.Aim.TheVariants.{Nearest, Within}
 use Rattle.gnat_search.specs.declared.found.Found.{Found}
-use Rattle.gnat_search.specs.Wants.{want, Kept, counted_in}
+use Rattle.gnat_search.specs.Wants.{want, Kept}
 
 module _ (old list : List Hit) (p : Found) (st : State) (k : Kept old list p st) where
   pub kept_long : length list ≡ length old
@@ -25,12 +24,10 @@ module _ (old list : List Hit) (p : Found) (st : State) (k : Kept old list p st)
   -- one more hit is placed
   module _ (h : Hit) (more : ℕ) (new : List Hit) (n : more ≡ min (length list) (p.held + 1)) (after : Sorted (take p.held list) → new ≡ over (take (length list) (put h (take p.held list))) list) where
     placed : new ≡ over (take (length old) (put h st.kept)) old
-    placed =
-        keep_put p.held h st.kept list new old k.writes k.holds
-        (after (subst Sorted (sym (keep_front p.held h st.kept list new old k.writes k.holds)) (take_sorted (length old) st.kept k.sorted)))
+    placed = keep_one p.held h st.kept list new old k.writes k.holds k.sorted after
 
     counts : more ≡ min (length old) (length (put h st.kept))
-    counts = keep_more p.held h st.kept list new old k.writes k.holds more n
+    counts = keep_count p.held h st.kept list new old k.writes k.holds more n
 
     -- it counts, by the aim
     module _ (a : Aim) (r : Found) (held : r.held ≡ more) (measured : r.measured ≡ p.measured + 1) where

@@ -1,4 +1,3 @@
-pub mod Rows
 pub mod Keeping
 pub mod Leaves
 pub mod Flagging

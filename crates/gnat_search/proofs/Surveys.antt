@@ -13,7 +13,7 @@ use Rattle.gnat_rows.specs.Shows.{ShowsParts, pivot_in}
 use Rattle.gnat_search.specs.declared.found.Found.{Found}
 use Rattle.gnat_search.specs.Wants.{Kept}
 use Rattle.gnat_search.specs.Nodes.{StruckMore, Flags}
-use Rattle.gnat_search.proofs.Rows.{same_row}
+use Rattle.gnat_rows.proofs.Changes.{same_row}
 use Rattle.gnat_search.proofs.Flagging.{quiet_flags}
 
 -- After i pivots: the parts that are left, what is known of the pivots before, and the state; the survey of what is left

@@ -1,6 +1,7 @@
 -- The search, turn by turn. Assumes nothing.
-use Rattle.std.proofs.Common.{◌≡◌, ℕ, zero, suc, ◌+◌, ◌-◌, ◌*◌, ◌<◌, ◌≤◌, Bool, List, [], ◌∷◌, ◌++◌, length, get_or, take, Some, None, Option, IsSome, sym, refl, ap, ◌∙◌, subst, arith}
+use Rattle.std.proofs.Common.{◌≡◌, ℕ, suc, ◌+◌, ◌-◌, ◌*◌, ◌<◌, ◌≤◌, Bool, List, [], ◌∷◌, ◌++◌, length, get_or, Some, None, Option, IsSome, sym, refl, ap, ◌∙◌, subst, arith}
 use Rattle.std.specs.List.{slice_get}
+use Rattle.std.proofs.Math.Seq.{take-nil}
 use Rattle.std.proofs.lemmas.List.{append-nil}
 use Rattle.std.proofs.lemmas.Option.{slice_get_within, slice_get-get_or}
 use Rattle.hits.specs.declared.Hit.{Hit}
@@ -22,7 +23,7 @@ use Rattle.gnat_search.specs.declared.found.Found.{Found}
 use Rattle.gnat_search.specs.Wants.{want, Counted, Kept}
 use Rattle.gnat_search.specs.Nodes.{open_rows, LeafShown, BranchShown, LeafMeasured, BranchSurveyed, Waiting, Searchable, Visited}
 use Rattle.gnat_search.proofs.Keeping.{kept_long}
-use Rattle.gnat_search.proofs.Rows.{same_row}
+use Rattle.gnat_rows.proofs.Changes.{same_row}
 use Rattle.gnat_search.proofs.Waiting.{Last, waiting_length, waiting_append, waiting_last, waiting_open, shown_leaf, shown_branch, shows_same}
 use Rattle.gnat_search.proofs.Weighing.{pending_below, pending_is}
 
@@ -145,15 +146,11 @@ module _ {E : Type 0} (rows : List (Row E)) (dist : E → E → ℕ) (q : E) (ai
     still = record {
       state = start;
       gives = refl;
-      keeps = record { finds = zeros.0; holds = omega (arith, zeros.1.0); measures = zeros.1.1; writes = ap (λ z. over z old) (sym (take_nil (length old))); sorted = tt };
+      keeps = record { finds = zeros.0; holds = omega (arith, zeros.1.0); measures = zeros.1.1; writes = ap (λ z. over z old) (sym (take-nil (length old))); sorted = tt };
       light = omega (arith, s.3);
       ahead = omega (arith, zeros.1.1, s.3);
     };
   }
-    where
-      take_nil : (n : ℕ) → take {A = Hit} n [] ≡ []
-      take_nil zero = refl
-      take_nil (suc n) = refl
 
   pub root_visited : (p : Found) → (p.found ≡ 0) × ((p.held ≡ 0) × (p.measured ≡ 0)) → Searchable rows 1024 root → (is js : List ℕ) (new : List Hit) (r : Found) → is ≡ [] → Counted p r 32 → Visited rows dist q aim root old new p r is js → Pause rows dist q aim root old js new r
   root_visited p zeros s is js new r empty c made = (turned [] root old p (first_visit p zeros s) js new r c (subst (λ z. Visited rows dist q aim root old new p r z js) empty made)).0

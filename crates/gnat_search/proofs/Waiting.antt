@@ -14,7 +14,7 @@ use Rattle.gnat_rows.specs.declared.Node.TheVariants as node
 use Rattle.gnat_rows.specs.declared.Row.{Row}
 use Rattle.gnat_rows.specs.Shows.{HoldsSamples, Shows, ShowsParts, sample_in, pivot_in, held}
 use Rattle.gnat_search.specs.Nodes.{Flags, open_rows, Waiting}
-use Rattle.gnat_search.proofs.Rows.{same_row}
+use Rattle.gnat_rows.proofs.Changes.{same_row}
 
 module _ {E : Type 0} (rows : List (Row E)) where
   pub waiting_length : (is : List ℕ) (ts : List (Tree E)) → Waiting rows is ts → length is ≡ length ts

@@ -1,5 +1,5 @@
 -- What is wanted of a search, and how the caller's list and the counts stand for its state.
-use Rattle.std.specs.Prelude.{◌≡◌, ℕ, suc, ◌+◌, ◌^◌, ◌<◌, ◌≤◌, min, List, length, take}
+use Rattle.std.specs.Prelude.{◌≡◌, ℕ, ◌+◌, ◌^◌, ◌<◌, ◌≤◌, min, List, length, take}
 use Rattle.hits.specs.declared.Hit.{Hit}
 use Rattle.hits.specs.Order.{Sorted}
 use Rattle.hits.specs.Lists.{over}
@@ -36,10 +36,6 @@ pub record Kept (old list : List Hit) (p : Found) (st : State) : Type 0 where
 -- whatever state list and counts stood for, they then stand for the next
 abbrev pub Steps : (State → State) → List Hit → List Hit → Found → Found → Type 0
 Steps next before after p r = (old : List Hit) (st : State) → Kept old before p st → Kept old after r (next st)
-
--- a hit counted in
-abbrev pub counted_in : Want → Hit → State → State
-counted_in w h st = record { kept = w.keep h st.kept; measured = suc st.measured }
 
 -- a pivot at this distance from the query, measured
 abbrev pub PivotCounted : {E : Type 0} → (E → E → ℕ) → ℕ → Pivot E → Aim → List Hit → List Hit → Found → Found → Type 0

@@ -3,10 +3,10 @@
 
 ghost use Rattle.std.specs.Prelude.{◌≡◌, ◌+◌, ◌-◌, ◌<◌, ◌≤◌, List, ◌++◌, length};
 ghost use Rattle.arrayvec.specs.ArrayVec.{array_vec_len};
-ghost use Rattle.gnat_theory.specs.Searching.{State, measure, outside as outside_of};
+ghost use Rattle.gnat_theory.specs.Searching.{State, counted_in, measure, outside as outside_of};
 ghost use Rattle.gnat_theory.specs.Searching.Sight.{seen};
 ghost use Rattle.gnat_rows.specs.Shows.{sample_in, pivot_in};
-ghost use Rattle.gnat_search.specs.Wants.{want, Room, Counted, Kept, Steps, counted_in, PivotCounted};
+ghost use Rattle.gnat_search.specs.Wants.{want, Room, Counted, Kept, Steps, PivotCounted};
 ghost use Rattle.gnat_search.specs.Nodes.{HasRange, StruckMore, open_rows, LeafShown, BranchShown, Searchable, LeafMeasured, BranchSurveyed, Visited, Searched};
 
 mod found;
@@ -241,7 +241,7 @@ impl<'a, E: Metric> Quest<'a, E> {
     }
 }
 
-// Searches the tree that the rows show from the root on. The rows taken last are visited first.
+// Searches the tree that the rows show from the root on. The rows put last on the list are visited first.
 pub fn search<E: Metric>(rows: &[Row<E>], root: &Node, q: &E, aim: Aim, list: &mut [Hit]) -> Found
     requires { Searchable rows.now 1024 root.now }
     ensures { Searched rows.now E.dist q.now aim root.now list.old list.new result }

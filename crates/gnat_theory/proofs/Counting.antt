@@ -1,6 +1,7 @@
 -- Lists whose keys are each as often in both are shuffles of one another. Assumes nothing.
 use Rattle.std.proofs.Common.{◌≡◌, ℕ, suc, ◌<◌, Bool, true, false, cond, eqb, List, [], ◌∷◌, ◌++◌, map, sym, refl, ap, ◌∙◌, subst, inl, inr, arith}
 use Rattle.std.proofs.lemmas.Bool.{eqb-true, eq-eqb, cond-true}
+use Rattle.std.proofs.lemmas.List.{map-id}
 use Rattle.hits.specs.Samples.{Among}
 use Rattle.gnat_theory.specs.Shuffles.{Shuffle, times, SameTimes}
 use Rattle.gnat_theory.specs.Shuffles.Shuffle.{nothing, after, swapped, in_turn}
@@ -66,13 +67,13 @@ module _ {X : Type 0} (key : X → ℕ) where
       (λ n. behind_first (eqb (key x) n) (times n (map key xs)) (times n (map key rest)) (s n ∙ times_shuffle n ys (x ∷ rest) front))))
       back
 
--- numbers are their own keys
-pub map_same : (ns : List ℕ) → map (λ n. n) ns ≡ ns
-map_same [] = refl
-map_same (n ∷ ns) = ap (λ z. n ∷ z) (map_same ns)
-
+-- of numbers, which are their own keys
 pub same_times : (ms ns : List ℕ) → Shuffle ℕ ms ns → SameTimes ms ns
-same_times ms ns s n = ap (times n) (sym (map_same ms)) ∙ (times_shuffle (λ k. k) n ms ns s ∙ ap (times n) (map_same ns))
+same_times ms ns s n = ap (times n) (sym (map-id ms)) ∙ (times_shuffle (λ k. k) n ms ns s ∙ ap (times n) (map-id ns))
 
 pub shuffle_numbers : (ms ns : List ℕ) → SameTimes ms ns → Shuffle ℕ ms ns
-shuffle_numbers ms ns s = shuffle_by (λ k. k) ms ns (λ x y m k e. e) (λ n. ap (times n) (map_same ms) ∙ (s n ∙ ap (times n) (sym (map_same ns))))
+shuffle_numbers ms ns s = shuffle_by (λ k. k) ms ns (λ x y m k e. e) (λ n. ap (times n) (map-id ms) ∙ (s n ∙ ap (times n) (sym (map-id ns))))
+
+-- what is left is the same where what is taken out is
+pub shuffle_left : (n : ℕ) (ms ns : List ℕ) → Shuffle ℕ (n ∷ ms) (n ∷ ns) → Shuffle ℕ ms ns
+shuffle_left n ms ns s = shuffle_numbers ms ns (λ k. behind_first (eqb n k) (times k ms) (times k ns) (same_times (n ∷ ms) (n ∷ ns) s k))

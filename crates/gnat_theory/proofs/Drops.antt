@@ -4,7 +4,9 @@ use Rattle.std.specs.List.{AllByRecursion}
 use Rattle.std.proofs.lemmas.Bool.{cond_both, cond-true, cond-false}
 use Rattle.std.proofs.ByRecursion.{All-append}
 use Rattle.hits.specs.Samples.{Sample}
+use Rattle.hits.proofs.Among.{all_left, all_right}
 use Rattle.index.specs.Meaning.{without}
+use Rattle.index.proofs.Standing.{without_fewer}
 use Rattle.gnat_theory.specs.Tree.{Tree, Parts, Pivot, Range, sample_of, pivots, gathered, gathered_parts, if_standing, always, standing, members, in_leaves}
 use Rattle.gnat_theory.specs.Tree.Tree.{leaf, branch}
 use Rattle.gnat_theory.specs.Tree.Parts.{none, part}
@@ -15,7 +17,6 @@ use Rattle.gnat_theory.specs.Shapes.{Branching, BranchingParts, Leaves, LeavesPa
 use Rattle.gnat_theory.specs.Shuffles.{Shuffle}
 use Rattle.gnat_theory.specs.Shuffles.Shuffle.{nothing, after, swapped, in_turn}
 use Rattle.gnat_theory.proofs.Shuffling.{same_order}
-use Rattle.gnat_theory.proofs.Gathering.{all_left, all_right}
 
 -- a fact that stays where some of the samples leave
 abbrev pub OfFewer : {E : Type 0} → ChildFact E → Type 1
@@ -58,12 +59,6 @@ module _ {E : Type 0} (n : ℕ) where
       go false true = same_order (x ∷ without n xs)
       go false false = swapped x y (without n xs)
   without_shuffle _ _ (in_turn xs ys zs s t) = in_turn (without n xs) (without n ys) (without n zs) (without_shuffle xs ys s) (without_shuffle ys zs t)
-
-  pub without_fewer : (xs : List (Sample E)) → length (without n xs) ≤ length xs
-  without_fewer [] = omega arith
-  without_fewer (x ∷ xs) =
-      let ih : length (without n xs) ≤ length xs = without_fewer xs in
-      cond_both (eqb x.number n) (without n xs) (x ∷ without n xs) (λ z. length z ≤ suc (length xs)) (λ e. omega arith) (λ e. omega arith)
 
   without_all : (P : Sample E → Type 0) (xs : List (Sample E)) → AllByRecursion P xs → AllByRecursion P (without n xs)
   without_all P [] a = tt
@@ -160,7 +155,7 @@ module _ {E : Type 0} (n : ℕ) where
 
   mutual
     pub shrunk_leaves : (most : ℕ) (t : Tree E) → Leaves most t → Leaves most (shrunk n t)
-    shrunk_leaves most (leaf xs) l = omega (arith, without_fewer xs)
+    shrunk_leaves most (leaf xs) l = omega (arith, without_fewer n xs)
     shrunk_leaves most (branch ps) l = shrunk_parts_leaves most ps l
 
     shrunk_parts_leaves : (most : ℕ) (ps : Parts E) → LeavesParts most ps → LeavesParts most (shrunk_parts n ps)

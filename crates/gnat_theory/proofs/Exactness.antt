@@ -16,7 +16,7 @@ use Rattle.gnat_theory.specs.Searching.Sight.{passed, seen}
 use Rattle.gnat_theory.specs.Ranges.{ThroughoutParts, Fits, RangesFit, Ranged}
 use Rattle.gnat_theory.specs.Shuffles.{Shuffle}
 use Rattle.gnat_theory.specs.Shuffles.Shuffle.{in_turn}
-use Rattle.gnat_theory.proofs.Ordering.{hits_sorted}
+use Rattle.hits.proofs.Ranking.{hits_sorted}
 use Rattle.gnat_theory.proofs.Wanting.{Keeps, nearest_keeps, within_keeps}
 use Rattle.gnat_theory.proofs.Striking.{Tells, Tell, tell_push, tell_weaker, Beyond, struck_beyond}
 use Rattle.gnat_theory.proofs.Gathering.{all_if_standing, all_standing}

@@ -1,20 +1,12 @@
 -- What the samples of a tree are. Assumes nothing.
-use Rattle.std.proofs.Common.{Bool, true, false, cond, List, [], ◌∷◌, ◌++◌}
+use Rattle.std.proofs.Common.{Bool, true, false, cond, [], ◌∷◌, ◌++◌}
 use Rattle.std.specs.List.{AllByRecursion}
 use Rattle.std.proofs.ByRecursion.{All-append}
 use Rattle.hits.specs.Samples.{Sample}
+use Rattle.hits.proofs.Among.{all_left, all_right}
 use Rattle.gnat_theory.specs.Tree.{Tree, Parts, Pivot, sample_of, gathered_parts, if_standing, always, standing, members}
 use Rattle.gnat_theory.specs.Tree.Tree.{leaf, branch}
 use Rattle.gnat_theory.specs.Tree.Parts.{none, part}
-
-module _ {X : Type 0} (P : X → Type 0) where
-  pub all_left : (xs ys : List X) → AllByRecursion P (xs ++ ys) → AllByRecursion P xs
-  all_left [] ys a = tt
-  all_left (x ∷ xs) ys a = (a.0, all_left xs ys a.1)
-
-  pub all_right : (xs ys : List X) → AllByRecursion P (xs ++ ys) → AllByRecursion P ys
-  all_right [] ys a = a
-  all_right (x ∷ xs) ys a = all_right xs ys a.1
 
 module _ {E : Type 0} (P : Sample E → Type 0) where
   pub all_if_standing : (p : Pivot E) → P (sample_of p) → AllByRecursion P (if_standing p)

@@ -1,5 +1,4 @@
 pub mod Shuffling
-pub mod Ordering
 pub mod Wanting
 pub mod Striking
 pub mod Gathering

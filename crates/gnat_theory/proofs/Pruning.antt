@@ -4,6 +4,7 @@ use Rattle.std.specs.List.{AllByRecursion}
 use Rattle.std.proofs.lemmas.Bool.{cond_both, eqb-true, ne_eqb, cond-false}
 use Rattle.std.proofs.ByRecursion.{All-weaker}
 use Rattle.hits.specs.Samples.{Sample, Among, Rising}
+use Rattle.hits.proofs.Among.{all_left, all_right, all_among, among_left, among_right, among_append}
 use Rattle.index.specs.Meaning.{without}
 use Rattle.gnat_theory.specs.Tree.{Tree, Parts, Pivot, Range, sample_of, pivots, gathered, gathered_parts, if_standing, always, standing, members, in_leaves}
 use Rattle.gnat_theory.specs.Tree.Tree.{leaf, branch}
@@ -14,28 +15,7 @@ use Rattle.gnat_theory.specs.Ranges.{ThroughoutParts, OwnNearest, Placed}
 use Rattle.gnat_theory.specs.Shuffles.{Shuffle, Apart}
 use Rattle.gnat_theory.specs.Shuffles.Shuffle.{nothing, after, swapped, in_turn}
 use Rattle.gnat_theory.specs.Keeping.{PrunedIsShrunk}
-use Rattle.gnat_theory.proofs.Gathering.{all_left, all_right}
 use Rattle.gnat_theory.proofs.Shuffling.{all_shuffle}
-
-pub all_among : {X : Type 0} (P : X → Type 0) (x : X) (xs : List X) → AllByRecursion P xs → Among x xs → P x
-all_among P x [] a m = absurd m
-all_among P x (y ∷ ys) a (inl e) = subst P (sym e) a.0
-all_among P x (y ∷ ys) a (inr m) = all_among P x ys a.1 m
-
-module _ {X : Type 0} (x : X) where
-  pub among_left : (xs ys : List X) → Among x xs → Among x (xs ++ ys)
-  among_left [] ys m = absurd m
-  among_left (y ∷ xs) ys (inl e) = inl e
-  among_left (y ∷ xs) ys (inr m) = inr (among_left xs ys m)
-
-  pub among_right : (xs ys : List X) → Among x ys → Among x (xs ++ ys)
-  among_right [] ys m = m
-  among_right (y ∷ xs) ys m = inr (among_right xs ys m)
-
-  pub among_append : (xs ys : List X) → Among x (xs ++ ys) → Among x xs ⊎ Among x ys
-  among_append [] ys m = inr m
-  among_append (y ∷ xs) ys (inl e) = inl (inl e)
-  among_append (y ∷ xs) ys (inr m) = ⊎_elim (λ k. inl (inr k)) inr (among_append xs ys m)
 
 module _ {E : Type 0} where
   pub part_equal : (column : List Range) (p q : Pivot E) (t u : Tree E) (ps qs : Parts E) → p ≡ q → t ≡ u → ps ≡ qs → part p column t ps ≡ part q column u qs

@@ -3,13 +3,14 @@ use Rattle.std.proofs.Common.{◌≡◌, ℕ, Bool, true, false, cond, eqb, List
 use Rattle.std.specs.List.{AllByRecursion}
 use Rattle.std.proofs.lemmas.Bool.{cond_both}
 use Rattle.hits.specs.Samples.{Sample, Among}
+use Rattle.hits.proofs.Among.{all_among}
 use Rattle.index.specs.Meaning.{without}
 use Rattle.gnat_theory.specs.Tree.{Tree, Parts, Pivot, sample_of, gathered_parts, if_standing, always, standing, members}
 use Rattle.gnat_theory.specs.Tree.Tree.{leaf, branch}
 use Rattle.gnat_theory.specs.Tree.Parts.{none, part}
 use Rattle.gnat_theory.specs.Dropping.{marked_at, shrunk, shrunk_parts}
 use Rattle.gnat_theory.specs.Shuffles.{Apart}
-use Rattle.gnat_theory.proofs.Pruning.{all_among, others_right, Other}
+use Rattle.gnat_theory.proofs.Pruning.{others_right, Other}
 
 -- some of the things of a list, in their order
 pub data Sublist (X : Type 0) : List X → List X → Type 0 where

@@ -21,10 +21,11 @@ use Rattle.gnat_theory.specs.Shuffles.Shuffle.{nothing, after, in_turn}
 use Rattle.gnat_theory.specs.Rules.{SplitsRoomily}
 use Rattle.gnat_theory.specs.Keeping.{Files, Grows, Shrinks, Rebuilds, Extends, AlwaysKeepsTree, RowsCounted}
 use Rattle.gnat_theory.specs.Finding.{OutsideIsBeyond, SearchExact, AlwaysBounded}
+use Rattle.index.proofs.Standing.{without_fewer}
 use Rattle.gnat_theory.proofs.Shuffling.{shuffle_back, shuffle_equal, shuffle_front, length_shuffle, hits_shuffle}
 use Rattle.gnat_theory.proofs.Filed.{Carries, fit_carries, tight_carries, nearest_carries, filed_branching, filed_gathered, filed_throughout, filed_leaves, filed_all_gathered, filed_all_throughout}
 use Rattle.gnat_theory.proofs.Splits.{split_in_leaves, grown_branching, grown_leaves, grown_gathered, grown_throughout}
-use Rattle.gnat_theory.proofs.Drops.{fit_fewer, nearest_fewer, without_shuffle, without_fewer, shrunk_standing, shrunk_in_leaves, shrunk_count, shrunk_throughout, shrunk_branching, shrunk_leaves}
+use Rattle.gnat_theory.proofs.Drops.{fit_fewer, nearest_fewer, without_shuffle, shrunk_standing, shrunk_in_leaves, shrunk_count, shrunk_throughout, shrunk_branching, shrunk_leaves}
 use Rattle.gnat_theory.proofs.Striking.{beyond_reach}
 use Rattle.gnat_theory.proofs.Exactness.{nearest_exact, within_exact}
 use Rattle.gnat_theory.proofs.Working.{search_work}

@@ -5,10 +5,9 @@ use Rattle.std.proofs.lemmas.Bool.{cond_both, leb-true, leb-false}
 use Rattle.std.proofs.ByRecursion.{All-weaker}
 use Rattle.hits.specs.declared.Hit.{Hit}
 use Rattle.hits.specs.Order.{precedes, Sorted, put, inside}
-use Rattle.hits.proofs.Precedence.{no_farther}
-use Rattle.hits.proofs.Keeping.{take_put, inside_put_far}
+use Rattle.hits.proofs.Precedence.{farther_behind, no_farther}
+use Rattle.hits.proofs.Keeping.{take_put, inside_put, inside_put_far}
 use Rattle.gnat_theory.specs.Searching.{Want, kth, nearest_hits, hits_within}
-use Rattle.gnat_theory.proofs.Ordering.{farther_behind, inside_put_sorted}
 
 -- A want keeps `result` of all the hits that it is given, and a hit beyond its reach would change nothing of that.
 pub record Keeps (w : Want) (result : List Hit → List Hit) : Type 0 where
@@ -43,7 +42,7 @@ pub within_keeps : (r : ℕ) → Keeps (hits_within r) (inside r)
 within_keeps r = record {
   none = refl;
   one_more = λ h hs o. cond_both (leb h.distance r) (put h (inside r hs)) (inside r hs) (λ z. z ≡ inside r (put h hs))
-      (λ e. sym (inside_put_sorted r h hs o (leb-true h.distance r e)))
+      (λ e. sym (inside_put r h hs o (leb-true h.distance r e)))
       (λ e. sym (inside_put_far r h hs (leb-false h.distance r e)));
   beyond = λ hs R o e h l. let z : r ≡ R = cc in inside_put_far r h hs (omega arith);
 }

@@ -55,9 +55,13 @@ struck [] rs = false
 struck (s ∷ ss) [] = false
 struck (s ∷ ss) (r ∷ rs) = strikes s r || struck ss rs
 
+-- a hit counted in
+abbrev pub counted_in : Want → Hit → State → State
+counted_in w h st = record { kept = w.keep h st.kept; measured = suc st.measured }
+
 module _ {E : Type 0} (dist : E → E → ℕ) (q : E) (w : Want) where
   abbrev pub measure : Sample E → State → State
-  measure s st = record { kept = w.keep (hit_of dist q s) st.kept; measured = suc st.measured }
+  measure s st = counted_in w (hit_of dist q s) st
 
   -- in order
   abbrev pub measure_all : List (Sample E) → State → State

@@ -5,6 +5,7 @@ use Rattle.std.specs.List.{AllByRecursion}
 use Rattle.std.proofs.lemmas.List.{take_all, length-map, get_or_default, take_at, drop_at}
 use Rattle.std.proofs.lemmas.Bool.{cases_lt}
 use Rattle.hits.specs.Lists.{over}
+use Rattle.hits.proofs.Among.{all_among}
 use Rattle.chains.specs.declared.Edge.{Edge}
 use Rattle.chains.specs.Chains.{Starts, Joined, Island, Route}
 use Rattle.chains.specs.Edges.{Linked, Inside, renamed}
@@ -54,9 +55,6 @@ module _ (links : List Links) (good : Good links) (goal : ℕ) (edges : List Edg
   named : map (renamed (number_at links)) (take n edges) ≡ edges_of links
   named = s.resolved.named ∙ ap (edges_among (numbers links)) (take_all (length links) links (omega arith))
 
-  abbrev pub ByPlace : (ℕ → Type 0) → Type 0
-  ByPlace S = Renames (λ i. i < length costs) (Linked (take n edges)) S (Linked (edges_of links))
-
   names : Renames (λ i. i < length (numbers links)) (Linked (take n edges)) (Standing links) (Linked (map (renamed (number_at links)) (take n edges)))
   names = places_renamed (numbers links) good.rises (take n edges) inside' (Standing links) (λ k a. a) (λ k a. a)
 
@@ -84,8 +82,8 @@ module _ (links : List Links) (good : Good links) (goal : ℕ) (edges : List Edg
   turns x y d (inr k) = inl k
 
   ends : (x y d : ℕ) → Linked (take n edges) x y d → (x < length costs) × (y < length costs)
-  ends x y d (inl k) = let p = settling.all_among (Inside (length costs)) (take n edges) _ inside k in (p.0, p.1)
-  ends x y d (inr k) = let p = settling.all_among (Inside (length costs)) (take n edges) _ inside k in (p.1, p.0)
+  ends x y d (inl k) = let p = all_among (Inside (length costs)) _ (take n edges) inside k in (p.0, p.1)
+  ends x y d (inr k) = let p = all_among (Inside (length costs)) _ (take n edges) inside k in (p.1, p.0)
 
   -- a place with a cost is joined to the goal
   joined_goal : (i : ℕ) → cost_at costs i < none → Joined (λ i. i < length costs) (Linked (take n edges)) i goal
@@ -93,9 +91,6 @@ module _ (links : List Links) (good : Good links) (goal : ℕ) (edges : List Edg
 
   goal_joined : (i : ℕ) → Joined (λ i. i < length costs) (Linked (take n edges)) i goal → cost_at costs i < none
   goal_joined i j = settling.reached_all (take n edges) goal costs few inside s.settled i j.numbers j.long j.joins
-
-  pub somewhere : Somewhere links costs
-  somewhere = record { long = s.long; place = goal; inside = omega (arith, s.long, s.settled.attained.inside); cost = omega (arith, s.settled.attained.start) }
 
   -- the first place with a cost is the island of the goal
   pub island_found : (r : ℕ) → FirstNumber links costs r → Island (Standing links) (Linked (edges_of links)) (number_at links goal) r

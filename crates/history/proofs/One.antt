@@ -1,10 +1,11 @@
 -- Two runs that ask the same are the same. Assumes nothing.
-use Rattle.std.proofs.Common.{◌≡◌, ℕ, Bool, List, [], ◌∷◌, sym, refl, ap, ◌∙◌, subst}
+use Rattle.std.proofs.Common.{◌≡◌, ℕ, Bool, List, [], ◌∷◌, ◌++◌, drop, sym, refl, ap, ◌∙◌, subst}
 use mathlib.Core.Path.{fun_ext}
 use Rattle.history.specs.declared.Call.{Call}
-use Rattle.history_theory.specs.History.{Asked, asks_add, History, then_asks, Gives}
+use Rattle.history_theory.specs.History.{Asked, asks_add, History, Lists, no_list, hit_list, number_list, then_asks, Gives}
 use Rattle.history_theory.proofs.One.{gives_one}
-use Rattle.history.specs.Turns.{Said, Lent, reply, asked, places_of, lists_after}
+use Rattle.history.specs.Fitting.{hit_places, number_places}
+use Rattle.history.specs.Turns.{Said, Lent, lent, reply, asked, lists_after}
 use Rattle.history.specs.Law.{Turn, Plays, Alike, adds, drops, elements, tallied, neared, ranged, islands, routes, AllAlike, replies}
 
 module _ {E C D : Type 0} (dist : E → E → ℕ) (p : C → E → E → Bool) (q : D → E → E → Bool) where
@@ -18,21 +19,26 @@ module _ {E C D : Type 0} (dist : E → E → ℕ) (p : C → E → E → Bool) 
   same_asked c d l (islands n) = refl
   same_asked c d l (routes a b n) = refl
 
-  same_places : (c : Call E C) (d : Call E D) → Alike p q c d → places_of c ≡ places_of d
-  same_places c d (adds e x y s) = refl
-  same_places c d (drops n) = refl
-  same_places c d (elements n) = refl
-  same_places c d tallied = refl
-  same_places c d (neared e k n) = refl
-  same_places c d (ranged e r n) = refl
-  same_places c d (islands n) = refl
-  same_places c d (routes a b n) = refl
+  same_places : (c : Call E C) (d : Call E D) → Alike p q c d → (hit_places c ≡ hit_places d) × (number_places c ≡ number_places d)
+  same_places c d (adds e x y s) = (refl, refl)
+  same_places c d (drops n) = (refl, refl)
+  same_places c d (elements n) = (refl, refl)
+  same_places c d tallied = (refl, refl)
+  same_places c d (neared e k n) = (refl, refl)
+  same_places c d (ranged e r n) = (refl, refl)
+  same_places c d (islands n) = (refl, refl)
+  same_places c d (routes a b n) = (refl, refl)
+
+  same_lists : (c : Call E C) (d : Call E D) → Alike p q c d → (l : Lent) (x : Lists) → lists_after c l x ≡ lists_after d l x
+  same_lists c d s l no_list = refl
+  same_lists c d s l (hit_list x) = ap (λ n. lent (x ++ drop n l.hits) l.numbers) (same_places c d s).0
+  same_lists c d s l (number_list x) = ap (λ n. lent l.hits (x ++ drop n l.numbers)) (same_places c d s).1
 
   pub same_turn : (h : History E) (c : Call E C) (d : Call E D) (l m n : Lent) (a b : Said E) → Alike p q c d → Turn dist p h c l a m → Turn dist q h d l b n → (reply a ≡ reply b) × (m ≡ n)
   same_turn h c d l m n a b s x y =
       let P : Asked E → Type 0 = λ z. Gives dist h z (reply a) x.lists in
       let r = gives_one dist h (asked q d l) (reply a) (reply b) x.lists y.lists (subst P (same_asked c d l s) x.gives) y.gives in
-      (r.0, x.leaves ∙ ((λ i. lists_after (same_places c d s i) l (r.1 i)) ∙ sym y.leaves))
+      (r.0, x.leaves ∙ (same_lists c d s l x.lists ∙ (ap (lists_after d l) r.1 ∙ sym y.leaves)))
 
   pub same_plays : (h : History E) (cs : List (Call E C)) (ds : List (Call E D)) (l : Lent) (as' bs : List (Said E)) (ms ns : List Lent) → AllAlike p q cs ds → Plays dist p h cs l as' ms → Plays dist q h ds l bs ns → (replies as' ≡ replies bs) × (ms ≡ ns)
   same_plays h [] [] l [] [] [] [] s u v = (refl, refl)

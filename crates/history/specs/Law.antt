@@ -10,14 +10,14 @@ use Rattle.roadmap.specs.Roads.{Road}
 use Rattle.history_theory.specs.History.{Reply, Lists, History, start, then_asks, Gives}
 use Rattle.history_theory.specs.Owed.{Owed}
 use Rattle.history.specs.Fitting.{unless}
-use Rattle.history.specs.Turns.{Said, Lent, reply, asked, places_of, lists_after, final, Ran}
+use Rattle.history.specs.Turns.{Said, Lent, reply, asked, lists_after, final, Ran}
 
 module _ {E C : Type 0} (dist : E → E → ℕ) (passes : C → E → E → Bool) where
   -- one turn of a run: the call is answered, and its list left, as the history gives, with what is owed of it
   pub record Turn (h : History E) (c : Call E C) (l : Lent) (a : Said E) (m : Lent) : Type 0 where
     pub lists : Lists
     pub gives : Gives dist h (asked passes c l) (reply a) lists
-    pub leaves : m ≡ lists_after (places_of c) l lists
+    pub leaves : m ≡ lists_after c l lists
     pub owed : Owed dist h (asked passes c l) (reply a) lists
 
   -- every turn of a run, each on the history that the turns before it make

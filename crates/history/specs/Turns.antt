@@ -9,6 +9,7 @@ use Rattle.history.specs.declared.Call.{Call}
 use Rattle.history.specs.declared.Call.TheVariants as call
 use Rattle.history.specs.declared.Answer.{Answer}
 use Rattle.history.specs.declared.Answer.TheVariants as answer
+use Rattle.history.specs.Fitting.{hit_places, number_places}
 use Rattle.history_theory.specs.History.{Asked, asks_add, asks_drop, asks_element, asks_tally, asks_near, asks_within, asks_island, asks_route, Reply, grew, shrank, shows, tallies, nears, withins, names, leads, refused, Lists, no_list, hit_list, number_list}
 
 -- what the two lists of a run hold
@@ -46,28 +47,17 @@ asked passes (call.Within q r places) l = asks_within q r (take places l.hits)
 asked passes (call.Island n) l = asks_island n
 asked passes (call.Route a b places) l = asks_route a b (take places l.numbers)
 
--- how many places of its list a call is lent
-abbrev pub places_of : {E C : Type 0} → Call E C → ℕ
-places_of (call.Add e c) = 0
-places_of (call.Drop n) = 0
-places_of (call.Element n) = 0
-places_of call.Tally = 0
-places_of (call.Near q k places) = places
-places_of (call.Within q r places) = places
-places_of (call.Island n) = 0
-places_of (call.Route a b places) = places
-
 -- the run's lists after a turn: the call's places as it left them, all others as they were
-abbrev pub lists_after : ℕ → Lent → Lists → Lent
-lists_after places l no_list = l
-lists_after places l (hit_list x) = lent (x ++ drop places l.hits) l.numbers
-lists_after places l (number_list x) = lent l.hits (x ++ drop places l.numbers)
+abbrev pub lists_after : {E C : Type 0} → Call E C → Lent → Lists → Lent
+lists_after c l no_list = l
+lists_after c l (hit_list x) = lent (x ++ drop (hit_places c) l.hits) l.numbers
+lists_after c l (number_list x) = lent l.hits (x ++ drop (number_places c) l.numbers)
 
 module _ {E C : Type 0} (dist : E → E → ℕ) (passes : C → E → E → Bool) where
   pub record Does (road : Road E) (c : Call E C) (l : Lent) (a : Said E) (m : Lent) (after : Road E) : Type 0 where
     pub lists : Lists
     pub tells : Tells dist road (asked passes c l) (reply a) lists after
-    pub leaves : m ≡ lists_after (places_of c) l lists
+    pub leaves : m ≡ lists_after c l lists
 
   -- a run, with its lists after each turn
   abbrev pub Runs : Road E → List (Call E C) → Lent → List (Said E) → List Lent → Road E → Type 0

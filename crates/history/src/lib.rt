@@ -152,7 +152,7 @@ pub fn ask<'a, I: Index + Drop, C: Checker<I::Element>>(
     }
 }
 
-// Makes the calls in order on a roadmap, and writes down the answers.
+// Makes the calls in order on a roadmap, and writes down the answers. Lists and answers are parameters, as at `ask`.
 fn run<'a, I: Index + Drop, C: Checker<I::Element>>(
     road: &mut Roadmap<'a, I>,
     calls: &[Call<I::Element, C>],

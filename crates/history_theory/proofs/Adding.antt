@@ -3,11 +3,11 @@ use Rattle.std.proofs.Common.{◌≡◌, ℕ, ◌+◌, ◌<◌, ◌≤◌, min, 
 use Rattle.std.proofs.lemmas.Bool.{eq-eqb, ne_eqb}
 use Rattle.metric.specs.Laws.{MetricLaws}
 use Rattle.hits.specs.declared.Hit.{Hit}
-use Rattle.hits.specs.Samples.{Sample, Among, Rising, hits}
+use Rattle.hits.specs.Samples.{Sample, Among, Rising, hits, numbers_of}
 use Rattle.hits.proofs.Ranking.{hits_ranked}
+use Rattle.hits.proofs.Among.{all_among, among_left, among_right, among_append}
 use Rattle.chains.specs.declared.Edge.{Edge}
 use Rattle.chains.specs.Edges.{edge}
-use Rattle.chains.proofs.Settling.{all_among}
 use Rattle.chains.proofs.Places.{among_map, among_unmap}
 use Rattle.index.specs.Meaning.{Meaning, Lawful, added, next_sample, element_at}
 use Rattle.index.specs.Outcomes.{Outcome, gives, refuses, given_room}
@@ -37,7 +37,7 @@ module _ {E : Type 0} where
       go false f ih = ih f
 
   stands_bound : (m : Meaning E) → Lawful m → (x : ℕ) → Stands m x → x ≤ m.last
-  stands_bound m law x s = all_among (λ n. n ≤ m.last) (map (λ s. s.number) m.standing) x (rising_bound 0 m.last m.standing law.rising) (stands_among x m.standing s.0 s.1)
+  stands_bound m law x s = all_among (λ n. n ≤ m.last) x (numbers_of m.standing) (rising_bound 0 m.last m.standing law.rising) (stands_among x m.standing s.0 s.1)
 
   -- a sample stands under its own number
   stands_own : (low high : ℕ) (xs : List (Sample E)) (s : Sample E) → Rising low high xs → Among s xs → element_at s.number xs ≡ Some s.element
@@ -122,20 +122,6 @@ kept_join t (x ∷ xs) g (inr a) i = go (t x) (kept_join t xs g a i)
     go : (b : Bool) → Among g (filter t xs) → Among g (cond b (x ∷ filter t xs) (filter t xs))
     go true c = inr c
     go false c = c
-
-append_split : {X : Type 0} (xs ys : List X) (x : X) → Among x (xs ++ ys) → Among x xs ⊎ Among x ys
-append_split [] ys x a = inr a
-append_split (y ∷ xs) ys x (inl e) = inl (inl e)
-append_split (y ∷ xs) ys x (inr a) = ⊎_elim (λ b. inl (inr b)) inr (append_split xs ys x a)
-
-append_left : {X : Type 0} (xs ys : List X) (x : X) → Among x xs → Among x (xs ++ ys)
-append_left [] ys x a = absurd a
-append_left (y ∷ xs) ys x (inl e) = inl e
-append_left (y ∷ xs) ys x (inr a) = inr (append_left xs ys x a)
-
-append_right : {X : Type 0} (xs ys : List X) (x : X) → Among x ys → Among x (xs ++ ys)
-append_right [] ys x a = a
-append_right (y ∷ xs) ys x a = inr (append_right xs ys x a)
 
 module _ {E : Type 0} (dist : E → E → ℕ) (top : ℕ) (laws : MetricLaws top dist) (h : History E) (e : E) (p : E → E → Bool) (law : Lawful (samples h)) (free : room_of (samples h) ≡ gives tt) where
   m : Meaning E
@@ -286,9 +272,9 @@ reached_add {E} dist top laws h e p even road after is r = go (room_of (samples 
           kept = λ x y d a. ⊎_elim
               (λ b. let s = r.kept x y d b in let t = admits_old dist top laws h e p r.law free x y s.0 in (t.0, s.1 ∙ t.1))
               (λ b. admits_new dist top laws h e p r.law free x y d b)
-              (append_split road.edges N (edge x y d) a);
+              (among_append (edge x y d) road.edges N a);
           held = λ x y a. ⊎_elim
-              (λ b. let t = admits_old dist top laws h e p r.law free x y b in let Q : ℕ → Type 0 = λ z. Among (edge x y z) (road.edges ++ N) in subst Q t.1 (append_left road.edges N (edge x y (distance_of dist h x y)) (r.held x y b)))
-              (λ b. append_right road.edges N (edge x y (distance_of dist (then_asks h (asks_add e p)) x y)) b)
+              (λ b. let t = admits_old dist top laws h e p r.law free x y b in let Q : ℕ → Type 0 = λ z. Among (edge x y z) (road.edges ++ N) in subst Q t.1 (among_left (edge x y (distance_of dist h x y)) road.edges N (r.held x y b)))
+              (λ b. among_right (edge x y (distance_of dist (then_asks h (asks_add e p)) x y)) road.edges N b)
               (admits_which dist top laws h e p r.law free x y a);
         })

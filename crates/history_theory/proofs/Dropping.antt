@@ -1,12 +1,12 @@
 -- A history that goes on with a call that brings no sample. Assumes nothing.
-use Rattle.std.proofs.Common.{◌≡◌, ℕ, ◌≤◌, Bool, true, false, cond, eqb, ◌⊎◌, List, [], ◌∷◌, ◌++◌, length, Some, None, Option, sym, refl, ap, ◌∙◌, subst, inl, inr, arith}
+use Rattle.std.proofs.Common.{◌≡◌, ℕ, ◌≤◌, Bool, true, false, cond, eqb, ◌⊎◌, List, [], ◌∷◌, ◌++◌, Some, None, Option, sym, refl, ap, ◌∙◌, subst, inl, inr, arith}
 use Rattle.std.proofs.lemmas.Bool.{eq-eqb, ne_eqb, eqb-false, cases_eq, or_parts, or_from}
 use Rattle.hits.specs.Samples.{Sample, Among}
 use Rattle.chains.specs.declared.Edge.{Edge}
 use Rattle.chains.specs.Edges.{edge}
 use Rattle.index.specs.Meaning.{Meaning, Lawful, dropped, without, element_at}
 use Rattle.index.specs.Calls.{drop_leaves_at}
-use Rattle.index.proofs.Standing.{rising_without}
+use Rattle.index.proofs.Standing.{rising_without, without_fewer}
 use Rattle.links.specs.Records.{touches, edges_without}
 use Rattle.roadmap.specs.Roads.{Road, Stands}
 use Rattle.roadmap.specs.Calls.{shrunk_edges, shrink_leaves}
@@ -99,15 +99,7 @@ reached_drop {E} dist h n ev road after is r = go (element_at n (samples h).stan
         shrinks left x g i = sym (others_left n x (samples h).standing (gone left x (g, i))) ∙ (ap (λ z. element_at x z.standing) (sym left) ∙ i)
 
         lawful : Lawful (dropped (samples h) n)
-        lawful = record { capacity_bound = r.law.capacity_bound; last_bound = r.law.last_bound; rising = rising_without n 0 (samples h).last (samples h).standing r.law.rising; room = omega (arith, fewer (samples h).standing, r.law.room) }
-          where
-            fewer : (xs : List (Sample E)) → length (without n xs) ≤ length xs
-            fewer [] = omega arith
-            fewer (x ∷ xs) = pick (eqb x.number n) (fewer xs)
-              where
-                pick : (b : Bool) → length (without n xs) ≤ length xs → length (cond b (without n xs) (x ∷ without n xs)) ≤ length (x ∷ xs)
-                pick true l = omega arith
-                pick false l = omega arith
+        lawful = record { capacity_bound = r.law.capacity_bound; last_bound = r.law.last_bound; rising = rising_without n 0 (samples h).last (samples h).standing r.law.rising; room = omega (arith, without_fewer n (samples h).standing, r.law.room) }
 
         back : samples (then_asks h (asks_drop n)) ≡ dropped (samples h) n → (x : ℕ) → (x ≡ n → ⊥) → Stands (samples h) x → Stands (samples (then_asks h (asks_drop n))) x
         back left x d s = (s.0, ap (λ z. element_at x z.standing) left ∙ (others_left n x (samples h).standing d ∙ s.1))

@@ -4,3 +4,4 @@ pub mod Ranking
 pub mod Keeping
 pub mod Placing
 pub mod Closing
+pub mod Among

@@ -1,5 +1,5 @@
 -- Samples, and the hits of a query among them.
-use Rattle.std.specs.Prelude.{◌≡◌, ℕ, ◌<◌, ◌≤◌, ◌⊎◌, List, [], ◌∷◌, length}
+use Rattle.std.specs.Prelude.{◌≡◌, ℕ, ◌<◌, ◌≤◌, ◌⊎◌, List, [], ◌∷◌, length, map}
 use Rattle.std.specs.Coded.{Unit-prop, le_prop}
 use mathlib.Core.HLevel.{×₃_prop}
 use Rattle.hits.specs.declared.Hit.{Hit}
@@ -9,6 +9,10 @@ use Rattle.hits.specs.Order.{InOrder, put}
 pub record Sample (E : Type 0) : Type 0 where
   pub number : ℕ
   pub element : E
+
+-- their numbers
+abbrev pub numbers_of : {E : Type 0} → List (Sample E) → List ℕ
+numbers_of xs = map (λ s. s.number) xs
 
 -- x is one of these
 abbrev pub Among : {X : Type 0} → X → List X → Type 0

@@ -1,15 +1,10 @@
 -- Lists of samples by rising number. Assumes nothing.
-use Rattle.std.proofs.Common.{◌≡◌, ℕ, zero, suc, ◌<◌, ◌≤◌, false, cond, eqb, List, [], ◌∷◌, ◌++◌, take, refl, ap, ◌∙◌, arith, ne_eqb}
+use Rattle.std.proofs.Common.{◌≡◌, ℕ, ◌<◌, ◌≤◌, false, cond, eqb, List, [], ◌∷◌, ◌++◌, refl, ap, ◌∙◌, arith, ne_eqb, suc, length}
 use Rattle.std.proofs.lemmas.Bool.{cond_both}
 use Rattle.hits.specs.Samples.{Sample, Rising}
 use Rattle.index.specs.Meaning.{without}
 
 module _ {E : Type 0} where
-  pub rising_take : (low high n : ℕ) (xs : List (Sample E)) → Rising low high xs → Rising low high (take n xs)
-  rising_take low high zero xs r = tt
-  rising_take low high (suc n) [] r = tt
-  rising_take low high (suc n) (x ∷ xs) r = (r.0, r.1, rising_take x.number high n xs r.2)
-
   -- with wider bounds
   pub rising_wider : (low high down up : ℕ) (xs : List (Sample E)) → down ≤ low → high ≤ up → Rising low high xs → Rising down up xs
   rising_wider low high down up [] a b r = tt
@@ -25,6 +20,12 @@ module _ {E : Type 0} where
   rising_without n low high (x ∷ xs) r = cond_both (eqb x.number n) (without n xs) (x ∷ without n xs) (Rising low high)
       (λ e. rising_wider x.number high low high (without n xs) (omega (arith, r.0)) (omega arith) (rising_without n x.number high xs r.2))
       (λ e. (r.0, r.1, rising_without n x.number high xs r.2))
+
+  pub without_fewer : (n : ℕ) (xs : List (Sample E)) → length (without n xs) ≤ length xs
+  without_fewer n [] = omega arith
+  without_fewer n (x ∷ xs) =
+      let ih : length (without n xs) ≤ length xs = without_fewer n xs in
+      cond_both (eqb x.number n) (without n xs) (x ∷ without n xs) (λ z. length z ≤ suc (length xs)) (λ e. omega arith) (λ e. omega arith)
 
   -- a number below all is not among them
   pub without_below : (n low high : ℕ) (xs : List (Sample E)) → n ≤ low → Rising low high xs → without n xs ≡ xs

@@ -23,7 +23,7 @@ pub enum Refusal {
 }
 
 impl Refusal {
-    // The number by which the refusal is known.
+    // The number by which the refusal is known. Outputs show it, so it is written out here.
     pub fn number(&self) -> u8
         ensures { result ≡ number_of self.now }
     {
@@ -52,7 +52,7 @@ pub fn room(capacity: usize, standing: usize, last: u16) -> Result<(), Refusal>
     Ok(())
 }
 
-// The refusal in plain words.
+// The refusal in plain words, with its figures.
 impl fmt::Display for Refusal {
     fn fmt<W: fmt::Write>(&self, f: &mut fmt::Formatter<W>) -> fmt::Result {
         match self {

@@ -1,6 +1,7 @@
 -- The edges that records hold after one more record, and after one less. Assumes nothing.
 use Rattle.std.proofs.Common.{◌≡◌, ℕ, zero, suc, ◌<◌, ◌≤◌, Bool, true, false, cond, ◌||◌, eqb, ◌⊎◌, List, [], ◌∷◌, ◌++◌, map, length, take, drop, filter, sym, refl, ap, ◌∙◌, inl, inr, arith}
 use Rattle.std.specs.List.{flat_map, AllByRecursion}
+use Rattle.std.proofs.ByRecursion.{All-weaker}
 use Rattle.std.proofs.lemmas.List.{map_push, append_assoc, append-nil, length-map}
 use Rattle.std.proofs.lemmas.Bool.{ne_eqb, eq-eqb, eqb-true, cases_eq, both_ways, or_left, or_right, or_from}
 use Rattle.hits.specs.declared.Hit.{Hit}
@@ -40,18 +41,14 @@ joined_push : {X A : Type 0} (f : X → List A) (xs : List X) (x : X) → flat_m
 joined_push f [] x = append-nil (f x)
 joined_push f (y ∷ ys) x = ap (λ z. f y ++ z) (joined_push f ys x) ∙ sym (append_assoc (f y) (flat_map f ys) (f x))
 
-all_two : {X : Type 0} (P Q : X → Type 0) → ((x : X) → P x → Q x) → (xs : List X) → AllByRecursion P xs → AllByRecursion Q xs
-all_two P Q f [] a = tt
-all_two P Q f (x ∷ xs) a = (f x a.0, all_two P Q f xs a.1)
-
 -- one more record, whose number is above those of all elders, and whose elders stand
 pub edges_push : (links : List Links) (r : Links) → AllByRecursion (λ x. AllByRecursion (λ h. h.number < r.number) (elders x)) links → AllByRecursion (λ h. has (numbers links) h.number ≡ true) (elders r) → edges_of (links ++ (r ∷ [])) ≡ edges_of links ++ map (edge_to r.number) (elders r)
 edges_push links r young there =
     let ns = numbers links in
     let n = r.number in
     let names : numbers (links ++ (r ∷ [])) ≡ ns ++ (n ∷ []) = map_push (λ x. x.number) links r in
-    let same : edges_among (ns ++ (n ∷ [])) links ≡ edges_among ns links = edges_alike (ns ++ (n ∷ [])) ns links (all_two (λ x. AllByRecursion (λ h. h.number < n) (elders x)) (λ x. AllByRecursion (λ h. has (ns ++ (n ∷ [])) h.number ≡ has ns h.number) (elders x)) (λ x a. all_two (λ h. h.number < n) (λ h. has (ns ++ (n ∷ [])) h.number ≡ has ns h.number) (λ h l. has_push_other ns n h.number (λ e. omega arith)) (elders x) a) links young) in
-    let all : filter (λ h. has (ns ++ (n ∷ [])) h.number) (elders r) ≡ elders r = kept_whole (λ h. has (ns ++ (n ∷ [])) h.number) (elders r) (all_two (λ h. has ns h.number ≡ true) (λ h. has (ns ++ (n ∷ [])) h.number ≡ true) (λ h e. has_push_more ns n h.number e) (elders r) there) in
+    let same : edges_among (ns ++ (n ∷ [])) links ≡ edges_among ns links = edges_alike (ns ++ (n ∷ [])) ns links (All-weaker (λ x. AllByRecursion (λ h. h.number < n) (elders x)) (λ x. AllByRecursion (λ h. has (ns ++ (n ∷ [])) h.number ≡ has ns h.number) (elders x)) (λ x a. All-weaker (λ h. h.number < n) (λ h. has (ns ++ (n ∷ [])) h.number ≡ has ns h.number) (λ h l. has_push_other ns n h.number (λ e. omega arith)) (elders x) a) links young) in
+    let all : filter (λ h. has (ns ++ (n ∷ [])) h.number) (elders r) ≡ elders r = kept_whole (λ h. has (ns ++ (n ∷ [])) h.number) (elders r) (All-weaker (λ h. has ns h.number ≡ true) (λ h. has (ns ++ (n ∷ [])) h.number ≡ true) (λ h e. has_push_more ns n h.number e) (elders r) there) in
     ap (λ z. edges_among z (links ++ (r ∷ []))) names
     ∙ (joined_push (record_edges (ns ++ (n ∷ []))) links r
     ∙ (ap (λ z. z ++ record_edges (ns ++ (n ∷ [])) r) same

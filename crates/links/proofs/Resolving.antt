@@ -39,9 +39,6 @@ pub record SoFar (links : List Links) (r : Links) (before : List Edge) (made : �
   pub named : map (renamed (number_at links)) (take all after) ≡ map (renamed (number_at links)) (take made before) ++ map (edge_to r.number) (filter (λ h. has (numbers links) h.number) (take i r.elders))
 
 module _ (links : List Links) (r : Links) (before : List Edge) (made : ℕ) where
-  pub none_so_far : SoFar links r before made before made 0
-  none_so_far = record { low = omega arith; few = omega arith; inside = λ a. a; named = sym (append-nil (map (renamed (number_at links)) (take made before))) }
-
   module _ (after : List Edge) (all i : ℕ) (s : SoFar links r before made after all i) (l : i < length r.elders) (h : Hit) (is : h ≡ get_or r.elders i h) where
     test : Hit → Bool
     test = λ x. has (numbers links) x.number

@@ -24,7 +24,7 @@ pub record Sound (r : Links) : Type 0 where
   pub places : length r.elders ≡ 8
   pub elder : AllByRecursion (λ h. (h.number < r.number) × (h.distance ≤ 1048576)) (elders r)
 
--- records by rising number, each sound, as many as samples can stand
+-- records by rising number, each sound, at most 1,024
 pub record Good (links : List Links) : Type 0 where
   pub rises : Rises 0 (numbers links)
   pub sound : AllByRecursion Sound links

@@ -12,7 +12,7 @@ use hits::Hit;
 // The elders that a sample has edges to, each with its distance: the first `count` of them count. An edge
 // counts only while both its ends stand. A plain record with its elders by value, since it is copied out of
 // a row, changed and written back.
-#[derive(Clone, Copy, Debug, PartialEq)]
+#[derive(Clone, Copy)]
 pub struct Links {
     pub number: u16,
     pub count: u8,
@@ -45,7 +45,7 @@ pub fn find(links: &[Links], number: u16) -> Option<usize>
         .ok()
 }
 
-// The records of a roadmap as they are lent: by rising number, each sound, as many as samples can stand.
+// The records of a roadmap as they are lent: by rising number, each sound, at most 1,024.
 #[derive(Clone, Copy)]
 pub struct Records<'a> {
     pub all: &'a [Links],

@@ -6,6 +6,7 @@ ghost use Rattle.turning.specs.Circle.{floor, RoundsDown};
 ghost use Rattle.turning.specs.Motions.{turned, joint_at, pose_at, steps_of, motion};
 
 use arm::{Arm, swing, turn};
+use std::array;
 
 // How many steps the motion has: the greatest turn of a joint. Its poses are those at the steps
 // from 0 to this one, and the poses of the way back are the same, in reverse.
@@ -58,16 +59,7 @@ fn joint(from: u16, to: u16, t: u16, n: u16) -> u16
 pub fn pose(from: &Arm, to: &Arm, t: u16, n: u16) -> Arm
     ensures { result ≡ pose_at from.now to.now n t }
 {
-    let a = from.angles;
-    let b = to.angles;
     Arm {
-        angles: [
-            joint(a[0], b[0], t, n),
-            joint(a[1], b[1], t, n),
-            joint(a[2], b[2], t, n),
-            joint(a[3], b[3], t, n),
-            joint(a[4], b[4], t, n),
-            joint(a[5], b[5], t, n),
-        ],
+        angles: array::from_fn(|i| joint(from.angles[i], to.angles[i], t, n)),
     }
 }

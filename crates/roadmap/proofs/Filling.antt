@@ -2,9 +2,10 @@
 use Rattle.std.proofs.Common.{◌≡◌, ℕ, ◌+◌, ◌<◌, ◌≤◌, ◌⊎◌, List, [], ◌∷◌, ◌++◌, length, take, set, replicate, Some, None, sym, refl, ap, ◌∙◌, subst, inl, inr, arith, length-append, length-set, length-take}
 use Rattle.std.specs.List.{AllByRecursion}
 use Rattle.std.proofs.lemmas.List.{take_more_set, map_push, append_assoc, append-nil, length-map}
-use Rattle.std.proofs.ByRecursion.{All-push}
+use Rattle.std.proofs.ByRecursion.{All-push, All-weaker}
 use Rattle.std.proofs.lemmas.Bool.{cases_order}
 use Rattle.hits.specs.Samples.{Among}
+use Rattle.hits.proofs.Among.{all_right, all_among, among_right, among_append}
 use Rattle.chains.specs.Edges.{Rises}
 use Rattle.index.specs.Meaning.{Meaning, Lawful, element_at}
 use Rattle.links.specs.declared.Links.{Links}
@@ -26,35 +27,12 @@ pub record Filling {E : Type 0} (m : Meaning E) (i used : ℕ) (links : List Lin
   pub places : AllByRecursion (λ r. length r.elders ≡ 8) (take used links)
 
 not_among : (ns : List ℕ) (b n : ℕ) → AllByRecursion (λ x. x ≤ b) ns → b < n → Among n ns → ⊥
-not_among [] b n a l m = m
-not_among (x ∷ xs) b n a l (inl e) = omega (arith, a.0)
-not_among (x ∷ xs) b n a l (inr m) = not_among xs b n a.1 l m
+not_among ns b n a l m = let k : n ≤ b = all_among (λ x. x ≤ b) n ns a m in absurd (omega arith)
 
 not_above : (ns : List ℕ) (b n : ℕ) → Rises b ns → n ≤ b → Among n ns → ⊥
 not_above [] b n r l m = m
 not_above (x ∷ xs) b n r l (inl e) = omega (arith, r.0)
 not_above (x ∷ xs) b n r l (inr m) = not_above xs x n r.1 (omega (arith, r.0)) m
-
-split_among : (xs ys : List ℕ) (n : ℕ) → Among n (xs ++ ys) → Among n xs ⊎ Among n ys
-split_among [] ys n a = inr a
-split_among (x ∷ xs) ys n (inl e) = inl (inl e)
-split_among (x ∷ xs) ys n (inr a) = go (split_among xs ys n a)
-  where
-    go : Among n xs ⊎ Among n ys → Among n (x ∷ xs) ⊎ Among n ys
-    go (inl b) = inl (inr b)
-    go (inr b) = inr b
-
-right_among : (xs ys : List ℕ) (n : ℕ) → Among n ys → Among n (xs ++ ys)
-right_among [] ys n a = a
-right_among (x ∷ xs) ys n a = inr (right_among xs ys n a)
-
-weaker : (b c : ℕ) (ns : List ℕ) → b ≤ c → AllByRecursion (λ n. n ≤ b) ns → AllByRecursion (λ n. n ≤ c) ns
-weaker b c [] l a = tt
-weaker b c (x ∷ xs) l a = (omega (arith, a.0), weaker b c xs l a.1)
-
-right_all : (P : ℕ → Type 0) (xs ys : List ℕ) → AllByRecursion P (xs ++ ys) → AllByRecursion P ys
-right_all P [] ys a = a
-right_all P (x ∷ xs) ys a = right_all P xs ys a.1
 
 module _ {E : Type 0} (m : Meaning E) (law : Lawful m) where
   pub fill_starts : (links : List Links) → Filling m 1 0 links
@@ -64,7 +42,7 @@ module _ {E : Type 0} (m : Meaning E) (law : Lawful m) where
   fill_ends i used links l f = record { used_bound = f.used_bound; unlinked = f.unlinked; places = f.places; numbered = sym (f.split ∙ (ap (λ z. numbers (take used links) ++ z) (none f.rest f.high bounded) ∙ append-nil (numbers (take used links)))) }
     where
       bounded : AllByRecursion (λ n. n ≤ m.last) f.rest
-      bounded = (let P : List ℕ → Type 0 = λ z. AllByRecursion (λ n. n ≤ m.last) z in right_all (λ n. n ≤ m.last) (numbers (take used links)) f.rest (subst P f.split (rising_bound 0 m.last m.standing law.rising)))
+      bounded = (let P : List ℕ → Type 0 = λ z. AllByRecursion (λ n. n ≤ m.last) z in all_right (λ n. n ≤ m.last) (numbers (take used links)) f.rest (subst P f.split (rising_bound 0 m.last m.standing law.rising)))
 
       none : (ns : List ℕ) → Rises f.below ns → AllByRecursion (λ n. n ≤ m.last) ns → ns ≡ []
       none [] r a = refl
@@ -73,7 +51,7 @@ module _ {E : Type 0} (m : Meaning E) (law : Lawful m) where
   module _ (i used : ℕ) (links : List Links) (f : Filling m i used links) where
     -- no sample of this number
     pub fill_not : element_at i m.standing ≡ None → Filling m (i + 1) used links
-    fill_not e = record { below = i; is = refl; rest = f.rest; split = f.split; low = weaker f.below i (numbers (take used links)) (omega (arith, f.is)) f.low; high = up f.rest f.split f.high; used_bound = f.used_bound; unlinked = f.unlinked; places = f.places }
+    fill_not e = record { below = i; is = refl; rest = f.rest; split = f.split; low = All-weaker (λ n. n ≤ f.below) (λ n. n ≤ i) (λ n l. omega (arith, f.is)) (numbers (take used links)) f.low; high = up f.rest f.split f.high; used_bound = f.used_bound; unlinked = f.unlinked; places = f.places }
       where
         up : (ns : List ℕ) → sample_numbers m ≡ numbers (take used links) ++ ns → Rises f.below ns → Rises i ns
         up [] s r = tt
@@ -82,7 +60,7 @@ module _ {E : Type 0} (m : Meaning E) (law : Lawful m) where
             go : (x ≡ i) ⊎ ((x < i) ⊎ (i < x)) → Rises i (x ∷ xs)
             go (inl q) =
                 let P : List ℕ → Type 0 = λ z. Among i z in
-                let st = among_stands i m.standing (subst P (sym s) (right_among (numbers (take used links)) (x ∷ xs) i (inl (sym q)))) in
+                let st = among_stands i m.standing (subst P (sym s) (among_right i (numbers (take used links)) (x ∷ xs) (inl (sym q)))) in
                 absurd (some_not_none (element_at i m.standing) st.0 st.1 e)
             go (inr (inl q)) = absurd (omega (arith, r.0, f.is))
             go (inr (inr q)) = (q, r.1)
@@ -94,7 +72,7 @@ module _ {E : Type 0} (m : Meaning E) (law : Lawful m) where
       pub higher : Rises i after
 
     pub next : (e : E) → element_at i m.standing ≡ Some e → Next
-    next e p = go (split_among (numbers (take used links)) f.rest i (let P : List ℕ → Type 0 = λ z. Among i z in subst P f.split (stands_among i m.standing e p)))
+    next e p = go (among_append i (numbers (take used links)) f.rest (let P : List ℕ → Type 0 = λ z. Among i z in subst P f.split (stands_among i m.standing e p)))
       where
         here : (ns : List ℕ) → f.rest ≡ ns → Rises f.below ns → Among i ns → Next
         here [] q r a = absurd a
@@ -131,7 +109,7 @@ module _ {E : Type 0} (m : Meaning E) (law : Lawful m) where
           is = refl;
           rest = n.after;
           split = f.split ∙ (ap (λ z. numbers (take used links) ++ z) n.is ∙ (sym (append_assoc (numbers (take used links)) (i ∷ []) n.after) ∙ ap (λ z. z ++ n.after) (sym names)));
-          low = subst P (sym names) (All-push (λ n. n ≤ i) (numbers (take used links)) i (weaker f.below i (numbers (take used links)) (omega (arith, f.is)) f.low) (omega arith));
+          low = subst P (sym names) (All-push (λ n. n ≤ i) (numbers (take used links)) i (All-weaker (λ n. n ≤ f.below) (λ n. n ≤ i) (λ n l. omega (arith, f.is)) (numbers (take used links)) f.low) (omega arith));
           high = n.higher;
           used_bound = simp length-set (omega arith);
           unlinked = subst Q (sym front) (All-push (λ r. r.count ≡ 0) (take used links) own f.unlinked (ap (λ z. z.count) is));

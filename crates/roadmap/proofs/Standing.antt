@@ -4,7 +4,8 @@ use Rattle.std.specs.List.{AllByRecursion}
 use Rattle.std.proofs.lemmas.List.{length-map}
 use Rattle.std.proofs.lemmas.Bool.{eq-eqb, ne_eqb, eqb-true, eqb-false, cases_eq, both_ways, or_cases, or_left, or_right, or_parts}
 use Rattle.hits.specs.declared.Hit.{Hit}
-use Rattle.hits.specs.Samples.{Sample, Among, Rising}
+use Rattle.hits.specs.Samples.{Sample, Among, Rising, numbers_of}
+use Rattle.hits.proofs.Among.{among_append}
 use Rattle.chains.specs.Chains.{Island}
 use Rattle.chains.specs.Edges.{edge, Linked, Rises}
 use Rattle.chains.proofs.Moving.{Same, joined_same, island_same, route_same}
@@ -26,14 +27,11 @@ among_has (x ∷ xs) n (inl e) = or_left (eqb x n) (has xs n) (eq-eqb x n (sym e
 among_has (x ∷ xs) n (inr a) = or_right (eqb x n) (has xs n) (among_has xs n a)
 
 module _ {E : Type 0} where
-  nums : List (Sample E) → List ℕ
-  nums xs = map (λ s. s.number) xs
-
-  pub rising_rises : (low high : ℕ) (xs : List (Sample E)) → Rising low high xs → Rises low (map (λ s. s.number) xs)
+  pub rising_rises : (low high : ℕ) (xs : List (Sample E)) → Rising low high xs → Rises low (numbers_of xs)
   rising_rises low high [] r = tt
   rising_rises low high (x ∷ xs) r = (r.0, rising_rises x.number high xs r.2)
 
-  pub rising_bound : (low high : ℕ) (xs : List (Sample E)) → Rising low high xs → AllByRecursion (λ n. n ≤ high) (map (λ s. s.number) xs)
+  pub rising_bound : (low high : ℕ) (xs : List (Sample E)) → Rising low high xs → AllByRecursion (λ n. n ≤ high) (numbers_of xs)
   rising_bound low high [] r = tt
   rising_bound low high (x ∷ xs) r = (r.1, rising_bound x.number high xs r.2)
 
@@ -46,34 +44,34 @@ module _ {E : Type 0} where
   pub some_not_none : (o : Option E) (e : E) → o ≡ Some e → o ≡ None → ⊥
   some_not_none o e p q = let z : ◌≡◌ {A = ℕ} 0 1 = cc in omega arith
 
-  pub stands_among : (n : ℕ) (xs : List (Sample E)) (e : E) → element_at n xs ≡ Some e → Among n (map (λ s. s.number) xs)
+  pub stands_among : (n : ℕ) (xs : List (Sample E)) (e : E) → element_at n xs ≡ Some e → Among n (numbers_of xs)
   stands_among n [] e p = absurd (some_not_none None e p refl)
   stands_among n (x ∷ xs) e p = go (cases_eq x.number n) (λ q. stands_among n xs e q)
     where
-      go : (x.number ≡ n) ⊎ (x.number ≡ n → ⊥) → (element_at n xs ≡ Some e → Among n (map (λ s. s.number) xs)) → Among n (map (λ s. s.number) (x ∷ xs))
+      go : (x.number ≡ n) ⊎ (x.number ≡ n → ⊥) → (element_at n xs ≡ Some e → Among n (numbers_of xs)) → Among n (numbers_of (x ∷ xs))
       go (inl q) ih = inl (sym q)
       go (inr q) ih = inr (ih (sym (at_there n x xs q) ∙ p))
 
-  pub among_stands : (n : ℕ) (xs : List (Sample E)) → Among n (map (λ s. s.number) xs) → (e : E) × (element_at n xs ≡ Some e)
+  pub among_stands : (n : ℕ) (xs : List (Sample E)) → Among n (numbers_of xs) → (e : E) × (element_at n xs ≡ Some e)
   among_stands n [] a = absurd a
   among_stands n (x ∷ xs) a = go (cases_eq x.number n) a (λ q. among_stands n xs q)
     where
-      go : (x.number ≡ n) ⊎ (x.number ≡ n → ⊥) → Among n (map (λ s. s.number) (x ∷ xs)) → (Among n (map (λ s. s.number) xs) → (e : E) × (element_at n xs ≡ Some e)) → (e : E) × (element_at n (x ∷ xs) ≡ Some e)
+      go : (x.number ≡ n) ⊎ (x.number ≡ n → ⊥) → Among n (numbers_of (x ∷ xs)) → (Among n (numbers_of xs) → (e : E) × (element_at n xs ≡ Some e)) → (e : E) × (element_at n (x ∷ xs) ≡ Some e)
       go (inl q) b ih = (x.element, at_here n x xs q)
       go (inr q) (inl b) ih = absurd (q (sym b))
       go (inr q) (inr b) ih = let r = ih b in (r.0, at_there n x xs q ∙ r.1)
 
-  pub none_there : (n : ℕ) (xs : List (Sample E)) → has (map (λ s. s.number) xs) n ≡ false → element_at n xs ≡ None
+  pub none_there : (n : ℕ) (xs : List (Sample E)) → has (numbers_of xs) n ≡ false → element_at n xs ≡ None
   none_there n [] p = refl
   none_there n (x ∷ xs) p =
-      let q = or_parts (eqb x.number n) (has (map (λ s. s.number) xs) n) p in
+      let q = or_parts (eqb x.number n) (has (numbers_of xs) n) p in
       at_there n x xs (eqb-false x.number n q.0) ∙ none_there n xs q.1
 
-  pub without_numbers : (n : ℕ) (xs : List (Sample E)) → map (λ s. s.number) (without n xs) ≡ numbers_without n (map (λ s. s.number) xs)
+  pub without_numbers : (n : ℕ) (xs : List (Sample E)) → numbers_of (without n xs) ≡ numbers_without n (numbers_of xs)
   without_numbers n [] = refl
   without_numbers n (x ∷ xs) = go (eqb x.number n) (without_numbers n xs)
     where
-      go : (b : Bool) → map (λ s. s.number) (without n xs) ≡ numbers_without n (map (λ s. s.number) xs) → map (λ s. s.number) (cond b (without n xs) (x ∷ without n xs)) ≡ cond b (numbers_without n (map (λ s. s.number) xs)) (x.number ∷ numbers_without n (map (λ s. s.number) xs))
+      go : (b : Bool) → numbers_of (without n xs) ≡ numbers_without n (numbers_of xs) → numbers_of (cond b (without n xs) (x ∷ without n xs)) ≡ cond b (numbers_without n (numbers_of xs)) (x.number ∷ numbers_without n (numbers_of xs))
       go true ih = ih
       go false ih = ap (λ z. x.number ∷ z) ih
 
@@ -87,14 +85,9 @@ record_ends ns m x y d (h ∷ hs) a = go (has ns h.number) refl a (λ b. record_
     go true e (inr b) ih = ih b
     go false e b ih = ih b
 
-among_append : {X : Type 0} (xs ys : List X) (x : X) → Among x (xs ++ ys) → Among x xs ⊎ Among x ys
-among_append [] ys x a = inr a
-among_append (y ∷ xs) ys x (inl e) = inl (inl e)
-among_append (y ∷ xs) ys x (inr a) = ⊎_elim (λ b. inl (inr b)) inr (among_append xs ys x a)
-
 pub edges_end : (ns : List ℕ) (links : List Links) (x y d : ℕ) → Among (edge x y d) (edges_among ns links) → (has ns x ≡ true) × Among y (numbers links)
 edges_end ns [] x y d a = absurd a
-edges_end ns (r ∷ rs) x y d a = go (among_append (record_edges ns r) (edges_among ns rs) (edge x y d) a) (λ b. edges_end ns rs x y d b)
+edges_end ns (r ∷ rs) x y d a = go (among_append (edge x y d) (record_edges ns r) (edges_among ns rs) a) (λ b. edges_end ns rs x y d b)
   where
     go : Among (edge x y d) (record_edges ns r) ⊎ Among (edge x y d) (edges_among ns rs) → (Among (edge x y d) (edges_among ns rs) → (has ns x ≡ true) × Among y (numbers rs)) → (has ns x ≡ true) × Among y (r.number ∷ numbers rs)
     go (inl b) ih = let p = record_ends ns r.number x y d (elders r) b in (p.0, inl p.1)

@@ -7,7 +7,7 @@ use Rattle.std.proofs.ByRecursion.{All-push, All-take, all_kept_by, All-weaker}
 use Rattle.std.proofs.lemmas.List.Sums.{length-filter, count_by-le-length}
 use Rattle.metric.specs.Laws.{MetricLaws}
 use Rattle.hits.specs.declared.Hit.{Hit}
-use Rattle.hits.specs.Samples.{Sample, Among, Rising, hits, hit_of}
+use Rattle.hits.specs.Samples.{Sample, Among, Rising, hits, hit_of, numbers_of}
 use Rattle.hits.specs.Lists.{closed}
 use Rattle.hits.proofs.Putting.{all_put}
 use Rattle.chains.specs.Chains.{Island}
@@ -24,6 +24,7 @@ use Rattle.links.specs.declared.Links.{Links}
 use Rattle.links.specs.Records.{numbers, number_at, elders, Sound, Good, has, edge_to, edges_of, edges_without, Found}
 use Rattle.links.proofs.Changing.{edges_push, edges_drop, links_without, numbers_without, numbers_left, taken_out, all_without, no_edges}
 use Rattle.hits.proofs.Closing.{closed_front, closed_length}
+use Rattle.hits.proofs.Among.{all_both}
 use Rattle.roadmap.specs.declared.Roadmap.{Roadmap}
 use Rattle.roadmap.specs.Roads.{Road, Stands, sample_numbers}
 use Rattle.roadmap.specs.Roadmaps.{road_of, Placed, PlaceTold}
@@ -35,12 +36,12 @@ module _ {E : Type 0} (dist : E → E → ℕ) (top : ℕ) (laws : MetricLaws to
   abbrev pub Fine : ℕ → List ℕ → Hit → Type 0
   Fine high ns h = (h.number ≤ high) × (h.distance ≤ 1048576) × Among h.number ns
 
-  fine_hits : (low high : ℕ) (xs : List (Sample E)) → Rising low high xs → AllByRecursion (Fine high (map (λ s. s.number) xs)) (hits dist q xs)
+  fine_hits : (low high : ℕ) (xs : List (Sample E)) → Rising low high xs → AllByRecursion (Fine high (numbers_of xs)) (hits dist q xs)
   fine_hits low high [] r = tt
   fine_hits low high (x ∷ xs) r =
-      all_put (Fine high (map (λ s. s.number) (x ∷ xs))) (hit_of dist q x) (hits dist q xs)
+      all_put (Fine high (numbers_of (x ∷ xs))) (hit_of dist q x) (hits dist q xs)
       (r.1, omega (arith, laws.bounded q x.element, laws.small), inl refl)
-      (All-weaker (Fine high (map (λ s. s.number) xs)) (Fine high (map (λ s. s.number) (x ∷ xs))) (λ h f. (f.0, f.1, inr f.2)) (hits dist q xs) (fine_hits x.number high xs r.2))
+      (All-weaker (Fine high (numbers_of xs)) (Fine high (numbers_of (x ∷ xs))) (λ h f. (f.0, f.1, inr f.2)) (hits dist q xs) (fine_hits x.number high xs r.2))
 
   pub fine_near : (m : Meaning E) → Lawful m → (k : ℕ) → AllByRecursion (Fine m.last (sample_numbers m)) (near_hits dist m q k)
   fine_near m law k = All-take (Fine m.last (sample_numbers m)) (near_count m k) (hits dist q m.standing) (fine_hits 0 m.last m.standing law.rising)
@@ -48,10 +49,6 @@ module _ {E : Type 0} (dist : E → E → ℕ) (top : ℕ) (laws : MetricLaws to
 all_unmap : {X Y : Type 0} (P : Y → Type 0) (f : X → Y) (xs : List X) → AllByRecursion P (map f xs) → AllByRecursion (λ x. P (f x)) xs
 all_unmap P f [] a = tt
 all_unmap P f (x ∷ xs) a = (a.0, all_unmap P f xs a.1)
-
-all_both : {X : Type 0} (P Q R : X → Type 0) → ((x : X) → P x → Q x → R x) → (xs : List X) → AllByRecursion P xs → AllByRecursion Q xs → AllByRecursion R xs
-all_both P Q R f [] a b = tt
-all_both P Q R f (x ∷ xs) a b = (f x a.0 b.0, all_both P Q R f xs a.1 b.1)
 
 -- the fields of a roadmap that are no facts
 pub record Fields (I : Type 0) : Type 0 where
@@ -80,9 +77,6 @@ module _ {I E : Type 0} {J : _} {M : _} where
   holds r = record { k_low = r.k_low; k_high = r.k_high; used_bound = r.used_bound; room = r.room; records = r.records; numbered = r.numbered }
 
 module _ {I E : Type 0} (meaning : I → Meaning E) (r : Fields I) (o : Holds meaning r) (law : Lawful (meaning r.index)) where
-  abbrev pub records_of : List Links
-  records_of = take r.used r.links
-
   pub used_is : r.used ≡ length (meaning r.index).standing
   used_is = omega (arith, length-take r.used r.links, o.used_bound, count (meaning r.index) law (take r.used r.links) o.numbered)
 
@@ -236,16 +230,6 @@ module _ {I E : Type 0} {J : _} {M : _} (r : Roadmap I E J M) where
 
 -- a new roadmap
 module _ {I E : Type 0} (meaning : I → Meaning E) (r : Fields I) (k : ℕ) (is : r.k ≡ k) (low : 1 ≤ k) (high : k ≤ 8) (room : (meaning r.index).capacity ≤ length r.links) (f : Filled (meaning r.index) r.used r.links) where
-  pub new_holds : Holds meaning r
-  new_holds = record {
-    k_low = omega arith;
-    k_high = omega arith;
-    used_bound = f.used_bound;
-    room = room;
-    records = all_both (λ x. x.count ≡ 0) (λ x. length x.elders ≡ 8) Sound (λ x z p. record { count_bound = omega arith; places = p; elder = (let P : ℕ → Type 0 = λ n. AllByRecursion (λ h. (h.number < x.number) × (h.distance ≤ 1048576)) (take n x.elders) in subst P (sym z) tt) }) (take r.used r.links) f.unlinked f.places;
-    numbered = f.numbered;
-  }
-
   pub new_means : road_at meaning r ≡ record { index = meaning r.index; k = k; edges = [] }
   new_means = (λ i. record { index = meaning r.index; k = is i; edges = no_edges (numbers (take r.used r.links)) (take r.used r.links) f.unlinked i })
 

@@ -3,6 +3,7 @@
 
 ghost use Rattle.std.specs.Prelude.{◌≡◌, ℕ, ◌+◌, ◌<◌, ◌≤◌, length, take};
 ghost use Rattle.std.specs.List.{AllByRecursion, AllByRecursion-prop};
+ghost use Rattle.hits.specs.Samples.{Ranked, hits};
 ghost use Rattle.index.specs.Meaning.{Meaning, added};
 ghost use Rattle.index.specs.Outcomes.{told, gives};
 ghost use Rattle.index.specs.Calls.{room_of, drop_outcome, element_outcome, tally_of, near_count, near_outcome, near_hits, near_list, within_count, within_list};
@@ -125,7 +126,7 @@ impl<'a, I: Index + Drop> Roadmap<'a, I> {
     pub fn new(index: I, k: u32, links: &'a mut [Links]) -> Result<Roadmap<'a, I>, Unmade>
         ensures { Made I.Index.meaning index k (length links.old) result }
     {
-        if k == 0 || k > 8 {
+        if !(1..=8).contains(&k) {
             return Err(Unmade::Setting(k));
         }
         let (capacity, _, last) = index.tally();
@@ -210,6 +211,7 @@ impl<'a, I: Index + Drop> Roadmap<'a, I> {
     pub fn near(&self, q: &I::Element, k: usize, list: &mut [Hit]) -> Result<usize, Refusal>
         ensures answer { told result ≡ near_outcome (road_of I.Index.meaning self.now).index k list.old }
         ensures writes { list.new ≡ near_list I.Element.Metric.dist (road_of I.Index.meaning self.now).index q.now k list.old }
+        ensures ranked { Ranked I.Element.Metric.dist q.now (road_of I.Index.meaning self.now).index.standing (hits I.Element.Metric.dist q.now (road_of I.Index.meaning self.now).index.standing) }
     {
         self.index.near(q, k, list)
     }
@@ -218,6 +220,7 @@ impl<'a, I: Index + Drop> Roadmap<'a, I> {
     pub fn within(&self, q: &I::Element, radius: u32, list: &mut [Hit]) -> usize
         ensures answer { result ≡ within_count I.Element.Metric.dist (road_of I.Index.meaning self.now).index q.now radius }
         ensures writes { list.new ≡ within_list I.Element.Metric.dist (road_of I.Index.meaning self.now).index q.now radius list.old }
+        ensures ranked { Ranked I.Element.Metric.dist q.now (road_of I.Index.meaning self.now).index.standing (hits I.Element.Metric.dist q.now (road_of I.Index.meaning self.now).index.standing) }
     {
         self.index.within(q, radius, list)
     }

@@ -8,7 +8,7 @@ use Rattle.std.proofs.lemmas.Bool.{cases_eq, cases_lt, both_ways}
 use Rattle.hits.specs.Samples.{Among}
 use Rattle.chains.specs.declared.Edge.{Edge}
 use Rattle.chains.specs.Edges.{Linked}
-use Rattle.chains.specs.Costs.{none, step_cost, cost_at, Way, stays, goes, SettledAt, Attained, Settled}
+use Rattle.chains.specs.Costs.{none, step_cost, cost_at, Way, stays, goes, SettledAt, Attained}
 use Rattle.routing.specs.Sweeps.{Lowered, Relaxed, Swept}
 
 module _ (at by d : ℕ) (costs : List ℕ) (in_a : at < length costs) (in_b : by < length costs) where
@@ -129,9 +129,3 @@ module _ (edges : List Edge) where
       each i (inl e) x m = stays i (cost_at (set costs goal 0) i) e (ap (cost_at (set costs goal 0)) e ∙ get_or-set_same costs goal 0 none l)
       each i (inr n) (inl x) m = let z : cost_at (set costs goal 0) i ≡ none = get_or-set_other costs goal i 0 none n ∙ all i x in absurd (omega arith)
       each i (inr n) (inr x) m = let z : cost_at (set costs goal 0) i ≡ none = get_or-set_other costs goal i 0 none n ∙ get_or_past costs i none x in absurd (omega arith)
-
-  -- a sweep that lowers nothing
-  pub all_settled : (goal : ℕ) (before after : List ℕ) → Attained edges goal before → (lowered : Bool) → lowered ≡ false → Swept edges edges before lowered after → Settled edges goal after
-  all_settled goal before after a lowered e s =
-      let P : List ℕ → Type 0 = λ z. Settled edges goal z in
-      subst P (sym (s.same e)) (record { attained = a; settled = s.settled e })

@@ -5,6 +5,7 @@ use Rattle.std.proofs.lemmas.List.{append_assoc, set-append_right, drop_more}
 use Rattle.std.proofs.lemmas.Bool.{eqb-true, ltb-true, eqb-false, ltb-false}
 use Rattle.hits.specs.Samples.{Among}
 use Rattle.hits.specs.Lists.{over}
+use Rattle.hits.proofs.Among.{among_left, among_right, among_append}
 use Rattle.chains.specs.declared.Edge.{Edge}
 use Rattle.chains.specs.Chains.{Route}
 use Rattle.chains.specs.Edges.{edge, Linked, Inside}
@@ -40,19 +41,7 @@ module _ (costs : List ℕ) (at from to d best : ℕ) where
           record { lower = omega arith; found = λ x _. absurd (eqb-false from at ea x); which = inl e }
 
 among_push : {X : Type 0} (xs : List X) (x y : X) → Among x (xs ++ (y ∷ [])) → Among x xs ⊎ (x ≡ y)
-among_push [] x y (inl e) = inr e
-among_push [] x y (inr m) = absurd m
-among_push (z ∷ xs) x y (inl e) = inl (inl e)
-among_push (z ∷ xs) x y (inr m) = ⊎_elim (λ a. inl (inr a)) inr (among_push xs x y m)
-
-pub among_left : {X : Type 0} (xs ys : List X) (x : X) → Among x xs → Among x (xs ++ ys)
-among_left [] ys x m = absurd m
-among_left (z ∷ xs) ys x (inl e) = inl e
-among_left (z ∷ xs) ys x (inr m) = inr (among_left xs ys x m)
-
-pub among_right : {X : Type 0} (xs ys : List X) (x : X) → Among x ys → Among x (xs ++ ys)
-among_right [] ys x m = m
-among_right (z ∷ xs) ys x m = inr (among_right xs ys x m)
+among_push xs x y m = ⊎_elim inl (λ k. ⊎_elim inr (λ z. absurd z) k) (among_append x xs (y ∷ []) m)
 
 module _ (costs : List ℕ) (at : ℕ) where
   pub onward_none : (edges : List Edge) → Onward [] costs at (length costs)
@@ -101,13 +90,13 @@ module _ (costs : List ℕ) (at : ℕ) where
       small j d (inr m) t = ⊎_elim (λ x. omega (arith, o.smallest j d (inr x) t, a.lower, b.lower)) (λ x. by_younger j d x t) (among_push es (edge j at d) e m)
 
       last : Among e (es ++ (e ∷ []))
-      last = among_right es (e ∷ []) e (inl refl)
+      last = among_right e es (e ∷ []) (inl refl)
 
       Found : ℕ → Type 0
       Found z = z < length costs → (d : ℕ) × Linked (es ++ (e ∷ [])) at z d × Tight z d
 
       old : Found best
-      old l = let x = o.joined l in (x.0, ⊎_elim (λ m. inl (among_left es (e ∷ []) (edge at best x.0) m)) (λ m. inr (among_left es (e ∷ []) (edge best at x.0) m)) x.1, x.2)
+      old l = let x = o.joined l in (x.0, ⊎_elim (λ m. inl (among_left (edge at best x.0) es (e ∷ []) m)) (λ m. inr (among_left (edge best at x.0) es (e ∷ []) m)) x.1, x.2)
 
       to_younger : e.elder ≡ at → Tight e.younger e.length → Found e.younger
       to_younger p t l = (e.length, inl (let P : ℕ → Type 0 = λ z. Among (edge z e.younger e.length) (es ++ (e ∷ [])) in subst P p last), t)

@@ -21,7 +21,8 @@ pub record Walked (edges : List Edge) (costs : List ℕ) (start goal : ℕ) (bef
   pub route : Route (λ i. i < length costs) (Linked edges) start goal numbers long
   pub writes : after ≡ over numbers before
 
--- r is the first place that has a cost
+-- r is the first place that has a cost, and the count of places if none has
 pub record First (costs : List ℕ) (r : ℕ) : Type 0 where
+  pub within : r ≤ length costs
   pub has : r < length costs → cost_at costs r < none
   pub first : (j : ℕ) → j < r → none ≤ cost_at costs j

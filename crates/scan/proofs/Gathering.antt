@@ -1,14 +1,14 @@
 -- Row by row, the hits within a radius. Assumes nothing.
-use Rattle.std.proofs.Common.{◌≡◌, ℕ, zero, suc, ◌+◌, ◌<◌, ◌≤◌, min, List, [], ◌∷◌, ◌++◌, length, get_or, take, sym, refl, ap, ◌∙◌, subst, arith}
-use Rattle.std.proofs.lemmas.List.{take_more, take_all, map_push, take-map}
+use Rattle.std.proofs.Common.{◌≡◌, ℕ, ◌+◌, ◌<◌, ◌≤◌, min, List, [], ◌∷◌, ◌++◌, length, get_or, take, sym, refl, ap, ◌∙◌, arith}
+use Rattle.std.proofs.Math.Seq.{take-nil}
+use Rattle.std.proofs.lemmas.List.{take_more, take_all, map_push}
 use Rattle.hits.specs.declared.Hit.{Hit}
-use Rattle.hits.specs.Order.{InOrder, put, inside}
-use Rattle.hits.specs.Samples.{Rising, hit_of, hits}
-use Rattle.hits.proofs.Ranking.{hits_push, hits_in_order}
-use Rattle.hits.proofs.Keeping.{inside_put, inside_put_far, inside_in_order, keep_one, keep_count}
+use Rattle.hits.specs.Order.{Sorted, put, inside}
+use Rattle.hits.specs.Samples.{hit_of, hits}
+use Rattle.hits.proofs.Ranking.{hits_push, hits_sorted}
+use Rattle.hits.proofs.Keeping.{inside_put, inside_put_far, inside_sorted, keep_one, keep_count}
 use Rattle.hits.proofs.Putting.{length_put}
 use Rattle.hits.specs.Lists.{over}
-use Rattle.index.proofs.Standing.{rising_take}
 use Rattle.scan.specs.declared.rows.Row.{Row}
 use Rattle.scan.specs.Rows.{sample_of, samples}
 
@@ -17,12 +17,12 @@ module _ {E : Type 0} (dist : E → E → ℕ) (q : E) (r : ℕ) where
   abbrev pub first_hits : ℕ → List (Row E) → List Hit
   first_hits i rows = inside r (hits dist q (samples (take i rows)))
 
-  module _ (rows : List (Row E)) (rise : Rising 0 65535 (samples rows)) where
-    order : (i : ℕ) → InOrder (hits dist q (samples (take i rows)))
-    order i = hits_in_order dist q 0 65535 (samples (take i rows)) (subst (Rising 0 65535) (take-map sample_of i rows) (rising_take 0 65535 i (samples rows) rise))
+  module _ (rows : List (Row E)) where
+    order : (i : ℕ) → Sorted (hits dist q (samples (take i rows)))
+    order i = hits_sorted dist q (samples (take i rows))
 
-    pub first_in_order : (i : ℕ) → InOrder (first_hits i rows)
-    first_in_order i = inside_in_order r (hits dist q (samples (take i rows))) (order i)
+    pub first_sorted : (i : ℕ) → Sorted (first_hits i rows)
+    first_sorted i = inside_sorted r (hits dist q (samples (take i rows))) (order i)
 
     module _ (i : ℕ) (row : Row E) (l : i < length rows) (is : row ≡ get_or rows i row) where
       next : hits dist q (samples (take (i + 1) rows)) ≡ put (hit_of dist q (sample_of row)) (hits dist q (samples (take i rows)))
@@ -48,34 +48,29 @@ pub record Gathered {E : Type 0} (dist : E → E → ℕ) (q : E) (r : ℕ) (row
 
 module _ {E : Type 0} (dist : E → E → ℕ) (q : E) (r : ℕ) (rows : List (Row E)) where
   pub none_gathered : (old : List Hit) → Gathered dist q r rows 0 0 0 old old
-  none_gathered old = record { few = omega arith; count = refl; holds = omega arith; writes = ap (λ z. over z old) (sym (take_nil (length old))) }
-    where
-      take_nil : (n : ℕ) → take {A = Hit} n [] ≡ []
-      take_nil zero = refl
-      take_nil (suc n) = refl
+  none_gathered old = record { few = omega arith; count = refl; holds = omega arith; writes = ap (λ z. over z old) (sym (take-nil (length old))) }
 
-  module _ (rise : Rising 0 65535 (samples rows)) (i found held : ℕ) (list old : List Hit) (row : Row E) (l : i < length rows) (is : row ≡ get_or rows i row) (g : Gathered dist q r rows i found held list old) where
+  module _ (i found held : ℕ) (list old : List Hit) (row : Row E) (l : i < length rows) (is : row ≡ get_or rows i row) (g : Gathered dist q r rows i found held list old) where
     pub near_gathered : (d more : ℕ) (new : List Hit) → d ≡ dist q row.element → d ≤ r
         → more ≡ min (length list) (held + 1)
-        → (InOrder (take held list) → new ≡ over (take (length list) (put (record { number = row.number; distance = d }) (take held list))) list)
+        → (Sorted (take held list) → new ≡ over (take (length list) (put (record { number = row.number; distance = d }) (take held list))) list)
         → Gathered dist q r rows (i + 1) (found + 1) more new old
     near_gathered d more new e h n after =
         let fs = first_hits dist q r i rows in
         let x : Hit = record { number = row.number; distance = d } in
         let same : hit_of dist q (sample_of row) ≡ x = ap (λ z. record { number = row.number; distance = z }) (sym e) in
-        let next : first_hits dist q r (i + 1) rows ≡ put x fs = first_near dist q r rows rise i row l is (omega arith) ∙ ap (λ z. put z fs) same in
+        let next : first_hits dist q r (i + 1) rows ≡ put x fs = first_near dist q r rows i row l is (omega arith) ∙ ap (λ z. put z fs) same in
         let room : held ≡ min (length old) (length fs) = g.holds ∙ ap (min (length old)) g.count in
-        let order = first_in_order dist q r rows rise i in
         record {
           few = omega (arith, g.few);
           count = omega (arith, ap length next, length_put x fs, g.count);
-          holds = keep_count held x fs list new old order g.writes room after more n ∙ ap (min (length old)) (omega (arith, length_put x fs, g.count));
-          writes = keep_one held x fs list new old order g.writes room after ∙ ap (λ z. over (take (length old) z) old) (sym next);
+          holds = keep_count held x fs list new old g.writes room more n ∙ ap (min (length old)) (omega (arith, length_put x fs, g.count));
+          writes = keep_one held x fs list new old g.writes room (first_sorted dist q r rows i) after ∙ ap (λ z. over (take (length old) z) old) (sym next);
         }
 
     pub far_gathered : (d : ℕ) → d ≡ dist q row.element → r < d → Gathered dist q r rows (i + 1) found held list old
     far_gathered d e h =
-        let same = first_far dist q r rows rise i row l is (omega arith) in
+        let same = first_far dist q r rows i row l is (omega arith) in
         record {
           few = omega (arith, g.few);
           count = g.count ∙ ap length (sym same);

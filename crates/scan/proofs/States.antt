@@ -17,7 +17,7 @@ use Rattle.index.specs.Outcomes.{room_outcome}
 use Rattle.index.specs.Calls.{room_of}
 use Rattle.index.specs.declared.refusal.Refusal.{Refusal}
 use Rattle.index.specs.declared.refusal.Refusal.TheVariants.{NotStanding}
-use Rattle.index.proofs.Standing.{rising_push, rising_wider, rising_without}
+use Rattle.index.proofs.Standing.{rising_push, rising_without}
 use Rattle.scan.specs.declared.rows.Row.{Row}
 use Rattle.scan.specs.declared.scan.Scan.{Scan}
 use Rattle.scan.specs.Rows.{sample_of, samples, Found}
@@ -33,15 +33,9 @@ module _ {E : Type 0} (s : Scan E) where
   pub room_is : (capacity : ℕ) → capacity ≡ (scan_meaning s).capacity → room_outcome capacity s.used s.last ≡ room_of (scan_meaning s)
   room_is capacity e = ap (λ k. room_outcome k s.used s.last) e ∙ ap (λ n. room_outcome (scan_meaning s).capacity n s.last) (sym standing_count)
 
-  rows_rise : Rising 0 65535 (scan_meaning s).standing
-  rows_rise = rising_wider 0 s.last 0 65535 (scan_meaning s).standing (omega arith) s.last_bound s.rising
-
   -- the part of the rows that is in use, as it is lent
   pub lent : take (s.used - 0) s.rows.now ≡ take s.used s.rows.now
   lent = let e : s.used - 0 ≡ s.used = omega arith in ap (λ k. take k s.rows.now) e
-
-  pub lent_rise : Rising 0 65535 (samples (take (s.used - 0) s.rows.now))
-  lent_rise = subst (λ z. Rising 0 65535 (samples z)) (sym lent) rows_rise
 
   pub ranked : (dist : E → E → ℕ) (q : E) → Ranked dist q (scan_meaning s).standing (hits dist q (scan_meaning s).standing)
   ranked dist q = hits_ranked dist q 0 s.last (scan_meaning s).standing s.rising

@@ -10,7 +10,7 @@ use hits::{Hit, place};
 use metric::Metric;
 
 // A place for one sample.
-#[derive(Clone, Copy, Debug, PartialEq)]
+#[derive(Clone, Copy)]
 pub struct Row<E> {
     pub number: u16,
     pub element: E,
@@ -34,7 +34,6 @@ pub(crate) fn find<E: Metric>(rows: &[Row<E>], number: u16) -> Option<usize>
 
 // Counts the rows at most `radius` away from the query, and keeps the nearest of them in the list.
 pub(crate) fn gather<E: Metric>(rows: &[Row<E>], q: &E, radius: u32, list: &mut [Hit]) -> usize
-    requires { Rising 0 65535 (samples rows.now) }
     ensures count { result ≡ length (inside radius (hits E.dist q.now (samples rows.now))) }
     ensures writes { list.new ≡ over (take (length list.old) (inside radius (hits E.dist q.now (samples rows.now)))) list.old }
 {

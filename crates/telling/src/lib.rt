@@ -1,5 +1,8 @@
-// Calls of an index, told in plain words.
+// Calls of an index, told in plain words. What is printed no clause says; each call is made, also where printing fails.
 #![tactic(auto)]
+
+ghost use Rattle.std.specs.Prelude.{◌≡◌};
+ghost use Rattle.index.specs.Calls.{add_leaves, drop_leaves, near_list, within_list};
 
 use hits::Hit;
 use index::index::Index;
@@ -15,17 +18,22 @@ pub fn tell_refusal(rt: &HostRuntime, refusal: Refusal) -> io::Result<()> {
 pub fn tell_add<I: Index>(rt: &HostRuntime, index: &mut I, e: I::Element) -> io::Result<()>
 where
     I::Element: Debug,
+    ensures { I.Index.meaning index.new ≡ add_leaves (I.Index.meaning index.old) e }
 {
+    let added = index.add(e);
     print!(rt; "  add {e:?}: ")?;
-    match index.add(e) {
+    match added {
         Ok(number) => println!(rt; "filed as sample {number}"),
         Err(refusal) => tell_refusal(rt, refusal),
     }
 }
 
-pub fn tell_drop<I: Index>(rt: &HostRuntime, index: &mut I, number: u16) -> io::Result<()> {
+pub fn tell_drop<I: Index>(rt: &HostRuntime, index: &mut I, number: u16) -> io::Result<()>
+    ensures { I.Index.meaning index.new ≡ drop_leaves (I.Index.meaning index.old) number }
+{
+    let dropped = index.drop(number);
     print!(rt; "  drop {number}: ")?;
-    match index.drop(number) {
+    match dropped {
         Ok(()) => println!(rt; "taken out"),
         Err(refusal) => tell_refusal(rt, refusal),
     }
@@ -65,9 +73,11 @@ pub fn tell_near<I: Index>(
 ) -> io::Result<()>
 where
     I::Element: Debug,
+    ensures { list.new ≡ near_list I.Element.Metric.dist (I.Index.meaning index.now) q.now k list.old }
 {
+    let near = index.near(q, k, list);
     print!(rt; "  the {k} nearest to {q:?}: ")?;
-    match index.near(q, k, list) {
+    match near {
         Ok(count) => {
             print!(rt; "{count} written")?;
             match list.get(0..count) {
@@ -88,6 +98,7 @@ pub fn tell_within<I: Index>(
 ) -> io::Result<()>
 where
     I::Element: Debug,
+    ensures { list.new ≡ within_list I.Element.Metric.dist (I.Index.meaning index.now) q.now radius list.old }
 {
     let found = index.within(q, radius, list);
     let written = found.min(list.len());

@@ -10,11 +10,6 @@ pub wrap_pos : (a : ℕ) → wrap (pos a) ≡ a % 4096
 unfolding wrap
 wrap_pos a = refl
 
-pub wrap_under : (z : ℤ) → wrap z < 4096
-unfolding wrap
-wrap_under (pos a) = omega arith
-wrap_under (negsuc a) = omega arith
-
 -- a full turn changes nothing
 pub wrap_shift : (z : ℤ) → wrap (z +ℤ pos 4096) ≡ wrap z
 unfolding wrap

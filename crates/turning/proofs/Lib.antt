@@ -4,3 +4,4 @@ pub mod Reversal
 pub mod Sweeps
 pub mod Machine
 pub mod Poses
+pub mod Made

@@ -1,5 +1,6 @@
 use Rattle.std.proofs.Common.{◌≡◌, suc, ◌+◌, ◌-◌, ◌<◌, ◌≤◌, ◌∷◌, ◌++◌, length, get_or, take, drop, set, sym, ap, ◌∙◌, arith}
 use Rattle.std.proofs.lemmas.List.{length-map}
+use Rattle.hits.proofs.Closing.{closed_pieces}
 use Rattle.gnat_order.specs.Order.{places, placed}
 use Rattle.gnat_order.proofs.Places.{place_of, placed_own, places_placed, put_next, sliding, slid_none, slid_read, slid_more, slid_write, length_slid}
 use Rattle.gnat_order.proofs.move_behind.Goals as goal
@@ -45,4 +46,5 @@ returns g c =
     ∙ ap (λ z. placed z rows) (ap (λ k. set (sliding at i ps) k c.place_in-moved.result) last ∙ (slid_write at i ps low high c.place_in-moved.result
     ∙ (ap (λ x. take at ps ++ (take (i - at) (drop (suc at) ps) ++ (x ∷ drop (suc i) ps))) moved
     ∙ (ap (λ k. take at ps ++ (take k (drop (suc at) ps) ++ (get_or ps at 0 ∷ drop (suc i) ps))) between
-    ∙ ap (λ k. take at ps ++ (take (count - suc at) (drop (suc at) ps) ++ (get_or ps at 0 ∷ drop k ps))) after))))
+    ∙ (ap (λ k. take at ps ++ (take (count - suc at) (drop (suc at) ps) ++ (get_or ps at 0 ∷ drop k ps))) after
+    ∙ sym (closed_pieces at count ps c.requires.0 (omega arith) 0))))))

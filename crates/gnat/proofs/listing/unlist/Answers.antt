@@ -1,7 +1,9 @@
 use Rattle.std.proofs.Common.{◌+◌, ◌-◌, refl, ap, ◌∙◌, arith}
-use Rattle.gnat_order.specs.Order.{places, placed, swapped, behind}
+use Rattle.hits.specs.Lists.{closed}
+use Rattle.hits.proofs.Closing.{closed_length}
+use Rattle.gnat_order.specs.Order.{places, placed, swapped}
 use Rattle.gnat_order.proofs.Places.{places_placed}
-use Rattle.gnat_order.proofs.Moves.{length_behind, length_swapped}
+use Rattle.gnat_order.proofs.Moves.{length_swapped}
 use Rattle.gnat.proofs.Taking.{placed_twice, length_places}
 use Rattle.gnat.proofs.listing.unlist.Goals as goal
 
@@ -10,8 +12,8 @@ returns-then-freed g c =
     let rows = c.args.rows.now in
     let s = c.args.standing in
     let m = c.args.marked in
-    let B = behind c.args.at s (places rows) in
-    let long = length_behind c.args.at s (places rows) c.requires.listed (omega (arith, c.requires.fits, length_places rows)) ∙ length_places rows in
+    let B = closed c.args.at s (places rows) in
+    let long = closed_length c.args.at s (places rows) c.requires.listed (omega (arith, c.requires.fits, length_places rows)) ∙ length_places rows in
     rw c.if-freed.true (record {
       count = refl;
       leaves = c.swap_places.ensures

@@ -1,6 +1,7 @@
 use Rattle.std.proofs.Common.{◌-◌, length, get_or, sym, ap, ◌∙◌, subst, arith}
 use Rattle.std.proofs.lemmas.List.{length-take}
-use Rattle.gnat_rows.proofs.Changes.{nth_within, same_row}
+use Rattle.std.proofs.lemmas.Option.{slice_get_within}
+use Rattle.gnat_rows.proofs.Changes.{same_row}
 use Rattle.gnat_rows.proofs.Showing.{shows_leaf}
 use Rattle.gnat_filing.specs.Dropping.{Droppable}
 use Rattle.gnat_filing.proofs.Level.{pivoted}
@@ -31,10 +32,10 @@ is_pivot-requires g t c =
     i.ready.most
 
 pub put_marked-requires : goal.put_marked-requires
-put_marked-requires g t c = let p = c.requires in nth_within c.args.rows.now c.args.at p.3 p.4.there
+put_marked-requires g t c = let p = c.requires in slice_get_within c.args.rows.now c.args.at p.3 p.4.there
 
 pub element_in-element-requires : goal.element_in-element-requires
-element_in-element-requires g t c = let p = c.requires in nth_within c.args.rows.now c.args.at p.3 p.4.there
+element_in-element-requires g t c = let p = c.requires in slice_get_within c.args.rows.now c.args.at p.3 p.4.there
 
 pub measured-ds-requires : goal.measured-ds-requires
 measured-ds-requires g t c =

@@ -87,5 +87,5 @@ returns g c degree t fs row some r there =
     let element = own.2 ∙ ap (λ z. z.element) (same_row rows at own.0 row own.1 there) in
     let near = subst (λ z. Approaches dist rows z b c.approach-j.new.b j) element c.approach-j.ensures in
     filed_below degree 31 2 rows (node.Branch b) at t fs b i dist leaf rows c.put_node.new.rows c.approach-j.new.b j c.lengthened.result (sample_in row) kid near
-    (leaf_takes dist degree rows c.node_in-child.result c.lengthened.result at kid.tree kid.below row there ready c.lengthened.ensures)
+    (leaf_takes dist degree rows c.node_in-child.result c.lengthened.result at kid.tree kid.below row there ready c.lengthened.ensures.leaf)
     (c.put_node.ensures ∙ ap (λ z. with_node (get_or z j 0) c.lengthened.result rows) still)

@@ -1,8 +1,8 @@
 use Rattle.std.proofs.Common.{◌≡◌, ◌<◌, [], ◌∷◌, ◌++◌, length, take, sym, subst, arith}
 use Rattle.std.proofs.ByRecursion.{All-get_or}
 use Rattle.std.proofs.lemmas.List.{get_or-take, length-take, length-take-le}
+use Rattle.hits.proofs.Among.{all_left, all_right}
 use Rattle.gnat_rows.specs.Shows.{held}
-use Rattle.gnat_rows.proofs.Apart.{all_left, all_right}
 use Rattle.gnat_rows.proofs.Showing.{holds_within}
 use Rattle.gnat_filing.proofs.Candidates.{never_large}
 use Rattle.gnat_filing.proofs.Assembling.{pivots_within, fillable, assembled}

@@ -11,10 +11,10 @@ returns-clause-keeps c = λ old st k.
     elim c.match-self.branch [
       | in-Nearest w ↦
           let placed = w.place-held in
-          near_kept old list so_far st k c.args.hit placed.result new placed.ensures.kept (λ s. w.list-is ∙ placed.ensures.ties s) c.args.self _ (ap (λ z. z.1.0) w.result-is) (ap (λ z. z.1.1.0) w.result-is) w.in-Nearest.is (ap (λ z. z.0) w.result-is)
+          near_kept old list so_far st k c.args.hit placed.result new placed.ensures.kept (λ s. w.list-is ∙ placed.ensures.after s) c.args.self _ (ap (λ z. z.1.0) w.result-is) (ap (λ z. z.1.1.0) w.result-is) w.in-Nearest.is (ap (λ z. z.0) w.result-is)
       | in-Within+then-hit-radius w ↦
           let placed = w.place-held-then-hit-radius in
-          within_kept old list so_far st k c.args.hit placed.result new placed.ensures.kept (λ s. w.list-is ∙ placed.ensures.ties s) c.args.self _ (ap (λ z. z.1.0) w.result-is) (ap (λ z. z.1.1.0) w.result-is) w.in-Within.radius w.in-Within.is w.if-hit-radius.true (ap (λ z. z.0) w.result-is)
+          within_kept old list so_far st k c.args.hit placed.result new placed.ensures.kept (λ s. w.list-is ∙ placed.ensures.after s) c.args.self _ (ap (λ z. z.1.0) w.result-is) (ap (λ z. z.1.1.0) w.result-is) w.in-Within.radius w.in-Within.is w.if-hit-radius.true (ap (λ z. z.0) w.result-is)
       | in-Within+else-hit-radius w ↦
           outside_kept old list so_far st k c.args.hit new c.args.self _ w.in-Within.radius w.in-Within.is w.if-hit-radius.false w.list-is (ap (λ z. z.0) w.result-is) (ap (λ z. z.1.0) w.result-is) (ap (λ z. z.1.1.0) w.result-is)
     ]

@@ -1,4 +1,4 @@
-use Rattle.std.proofs.Common.{◌≤◌, sym, refl, ap, arith}
+use Rattle.std.proofs.Common.{◌≤◌, sym, refl, ap, arith, rules}
 use Rattle.roadmap.proofs.States.{Fields, new_means}
 use Rattle.roadmap.proofs.Roadmap.new.Goals as goal
 
@@ -8,8 +8,8 @@ fill_in-used-requires g c = let t = c.tally-capacity.ensures in (sym (ap (λ z. 
 pub returns : goal.returns
 returns g c =
     let t : Fields g.row.I.Denot = record { index = c.args.index; k = c.args.k; links = c.fill_in-used.new.links; used = c.fill_in-used.result } in
-    let low : 1 ≤ c.args.k = omega (arith, c.if-k-eq0.false) in
-    let high : c.args.k ≤ 8 = omega (arith, c.if-k-gt8.false) in
+    let low : 1 ≤ c.args.k = search rules in
+    let high : c.args.k ≤ 8 = search rules in
     let cap = ap (λ z. z.0) c.tally-capacity.ensures in
     let long = c.fill_in-used.auto.links in (
       low,

@@ -22,10 +22,10 @@ loop-row-preserved g c =
     let list = c.loop-row.list in
     elim c.if-distance-radius.branch [
       | then-distance-radius w ↦ gathered_as dist q r rows (i + 1) _ _ _ _ _ _ old w.found-is w.held-is w.list-is
-          (near_gathered dist q r rows c.requires i found held list old c.row-item.result c.loop-row-test.true c.row-item.is c.loop-row.invariant
+          (near_gathered dist q r rows i found held list old c.row-item.result c.loop-row-test.true c.row-item.is c.loop-row.invariant
           c.distance-distance.result w.place-held.result w.place-held.new.list c.distance-distance.ensures w.if-distance-radius.true w.place-held.ensures.kept w.place-held.ensures.after)
       | else-distance-radius w ↦ gathered_as dist q r rows (i + 1) _ _ _ _ _ _ old w.found-is w.held-is w.list-is
-          (far_gathered dist q r rows c.requires i found held list old c.row-item.result c.loop-row-test.true c.row-item.is c.loop-row.invariant
+          (far_gathered dist q r rows i found held list old c.row-item.result c.loop-row-test.true c.row-item.is c.loop-row.invariant
           c.distance-distance.result c.distance-distance.ensures w.if-distance-radius.false)
     ]
 

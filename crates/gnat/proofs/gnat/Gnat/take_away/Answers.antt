@@ -3,7 +3,7 @@ use Rattle.gnat_filing.specs.Dropping.{Droppable, Drops, DropsFrom}
 use Rattle.gnat_theory.specs.Dropping.{shrunk}
 use Rattle.gnat_order.specs.Order.{places}
 use Rattle.gnat_order.proofs.Places.{place_of}
-use Rattle.gnat_order.proofs.Numbers.{there}
+use Rattle.gnat_rows.proofs.Changes.{nth_there}
 use Rattle.gnat.proofs.Taking.{row_within, may_take, taken}
 use Rattle.gnat.specs.Gnats.{state_of}
 use Rattle.gnat.proofs.Laid.{laid_out, sound_of}
@@ -17,7 +17,7 @@ take_out-dropped-requires g c =
     let rows = s.rows in
     let at = c.args.at in
     let same : c.row_at-row.result ≡ get_or (places rows) at 0 = c.row_at-row.ensures.2 ∙ sym (place_of rows at c.row_at-row.ensures.0 c.row_at-row.ensures.1) in
-    let r = there rows (get_or (places rows) at 0) (row_within dist s o at c.requires.listed) in
+    let r = nth_there rows (get_or (places rows) at 0) (row_within dist s o at c.requires.listed) in
     (s.settings.degree, o.tree, o.lies, r.0, subst (λ i. Droppable dist s.settings.degree 1025 rows s.root i o.tree o.lies r.0) (sym same) (may_take dist s o at c.requires.listed r.0 r.1))
 
 pub returns : goal.returns
@@ -52,7 +52,7 @@ invariant_of-self g c =
     let freed = c.take_out-dropped.result.freed in
     let long : length later ≡ length rows = search (rules, c.take_out-dropped.auto) in
     let gone = subst (λ i. DropsFrom dist 1025 rows later s.root root freed i) same c.take_out-dropped.ensures in
-    let r = there rows (get_or (places rows) at 0) (row_within dist s o at c.requires.listed) in
+    let r = nth_there rows (get_or (places rows) at 0) (row_within dist s o at c.requires.listed) in
     let n = r.0.number in
     let d = gone s.settings.degree o.tree o.lies r.0 (may_take dist s o at c.requires.listed r.0 r.1) in
     record {

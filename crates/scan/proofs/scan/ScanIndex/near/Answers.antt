@@ -5,7 +5,7 @@ use Rattle.index.specs.Calls.{bad_count}
 use Rattle.index.proofs.Outcomes.{near_refused, near_done}
 use Rattle.scan.specs.Rows.{samples}
 use Rattle.scan.specs.Scans.{scan_meaning}
-use Rattle.scan.proofs.States.{lent, lent_rise, ranked, near_writes, near_counts}
+use Rattle.scan.proofs.States.{lent, ranked, near_writes, near_counts}
 use Rattle.scan.proofs.scan.ScanIndex.near.Goals as goal
 
 pub returns-then-k-eq0 : goal.returns-then-k-eq0
@@ -19,9 +19,6 @@ returns-then-k-eq0 g c =
     c.then-k-eq0.either in
     let r = near_refused g.E.Metric.dist (scan_meaning s) c.args.q.now k list bad in
     record { answer = r.0; writes = r.1; ranked = ranked s g.E.Metric.dist c.args.q.now }
-
-pub gather-found-requires : goal.gather-found-requires
-gather-found-requires g c = lent_rise c.args.self.now
 
 pub returns : goal.returns
 returns g c =

@@ -3,11 +3,8 @@ use Rattle.hits.specs.Lists.{over}
 use Rattle.hits.specs.Order.{inside}
 use Rattle.hits.specs.Samples.{hits}
 use Rattle.scan.specs.Rows.{samples}
-use Rattle.scan.proofs.States.{lent, lent_rise, ranked}
+use Rattle.scan.proofs.States.{lent, ranked}
 use Rattle.scan.proofs.scan.ScanIndex.within.Goals as goal
-
-pub gather-requires : goal.gather-requires
-gather-requires g c = lent_rise c.args.self.now
 
 pub returns : goal.returns
 returns g c =
