@@ -28,7 +28,8 @@ fn word_of<E>(answer: &Result<Answer<E>, Refusal>) -> &'static [u8]
     }
 }
 
-// The numbers behind it. The longest line is a route's: its length, its count and 64 numbers.
+// The numbers behind it, of the lists as the call left them, each a parameter as at `history::ask`. The longest line is a
+// route's: its length, its count and 64 numbers.
 fn numbers_of<E, C>(
     call: &Call<E, C>,
     answer: &Result<Answer<E>, Refusal>,

@@ -4,7 +4,7 @@ use Rattle.index.specs.Outcomes.{Outcome, gives, refuses}
 use Rattle.level_theory.specs.Words.{letter, digit, all_bytes, number_word, Want, a_number, Taken, right, wrong, with_number, take_words}
 use Rattle.level_theory.specs.Levels.{Kind, arms, cards, form_of, LineCall}
 use Rattle.level_theory.specs.Levels.{Level as Meaning}
-use Rattle.level_theory.specs.Reading.{Stage, at_wall_count, at_walls, at_call_count, at_calls, walls_left, calls_left, count_wants, no_call, formed, level_with, number_wants, progress, then_call, read_call, read_call_at, read_line}
+use Rattle.level_theory.specs.Reading.{Stage, at_wall_count, at_walls, at_call_count, at_calls, walls_left, calls_left, count_wants, formed, level_with, number_wants, progress, then_call, read_call, read_call_at, read_line}
 use Rattle.words.specs.Tokens.{Word, letters, digits, amiss, word_of}
 use Rattle.words.specs.Cursors.{first_word}
 use Rattle.words.proofs.Numbers.{not_digits, no_bytes, letters_no_digits}
@@ -95,7 +95,7 @@ wall_first : (kind : Kind) (ws : List (List ℕ)) (i : ℕ) → of_digits (first
 wall_first arms ws i f = first_number 4095 (number_wants 11 4095) ws i f
 wall_first cards ws i f = first_number 255 (number_wants 7 255) ws i f
 
-no_sole : (t : Word) → of_letters t ≡ false → named (sole t) ≡ no_call
+no_sole : (t : Word) → of_letters t ≡ false → named (sole t) ≡ None
 no_sole (letters w i) f = let n : ◌≡◌ {A = ℕ} 0 1 = cc in absurd (omega arith)
 no_sole (digits w i) f = refl
 no_sole (amiss i) f = refl

@@ -5,7 +5,6 @@ use Rattle.level_theory.specs.Levels.{Kind, arms, cards}
 use Rattle.level_theory.specs.Levels.{Level as Meaning}
 use Rattle.lines.specs.declared.calls.CallLine.{CallLine}
 use Rattle.lines.specs.declared.fault.ReadFault.{ReadFault}
-use Rattle.lines.specs.declared.header.Header.{Header}
 use Rattle.lines.specs.Faults.{fault_number, fault_figures}
 use Rattle.lines.specs.Settings.{tree_degree, tree_bucket}
 use Rattle.lines.specs.Calls.{call_shown}
@@ -26,9 +25,6 @@ with_call l call = record { header = l.header; walls = l.walls; calls = record {
 -- kind and settings, the walls and the calls by their numbers
 abbrev pub level_shown : {E W : Type 0} → Kind → (E → List ℕ) → (W → List ℕ) → Level E W → Meaning
 level_shown kind listed bounds l = record { kind = kind; degree = tree_degree l.header.tree; bucket = tree_bucket l.header.tree; k = l.header.k; walls = map bounds l.walls.items; calls = map (call_shown listed) l.calls.items }
-
-abbrev pub empty_level : Kind → Header → Meaning
-empty_level kind header = record { kind = kind; degree = tree_degree header.tree; bucket = tree_bucket header.tree; k = header.k; walls = []; calls = [] }
 
 -- what reading the lines into a level tells
 abbrev pub rest_told : {E W : Type 0} → Kind → (E → List ℕ) → (W → List ℕ) → Result Unit ReadFault → Level E W → Outcome Meaning

@@ -2,11 +2,12 @@
 ghost use Rattle.std.specs.Prelude.{◌≡◌, ◌≢◌, ℕ, ◌+◌, ◌≤◌, length};
 ghost use Rattle.index.specs.Outcomes.{gives};
 ghost use Rattle.level_theory.specs.Words.{words_of, pieces_of};
-ghost use Rattle.level_theory.specs.Reading.{read_line, read_lines};
+ghost use Rattle.level_theory.specs.Reading.{header_level, read_line, read_lines};
 ghost use Rattle.words.specs.Cursors.{words_left};
+ghost use Rattle.lines.specs.Settings.{header_numbers};
 ghost use Rattle.level.specs.declared.stage.Stage.TheVariants.{WallCount, Walls, Calls, End};
 ghost use Rattle.level.specs.Stages.{stage_shown, walls_yet, calls_yet};
-ghost use Rattle.level.specs.Levels.{empty_level, rest_told};
+ghost use Rattle.level.specs.Levels.{rest_told};
 
 use crate::level::Level;
 use crate::stage::{Stage, calls_to_come, walls_to_come};
@@ -35,7 +36,7 @@ impl<K: Written> Reader<K> {
     pub(crate) fn start(header: Header) -> Self
     where
         K::Wall: Default,
-        ensures level { level_read result ≡ empty_level K.kind header }
+        ensures level { level_read result ≡ header_level K.kind (header_numbers header) }
         ensures stage { result.stage ≡ WallCount }
     {
         Reader {

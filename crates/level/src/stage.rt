@@ -3,7 +3,7 @@ ghost use Rattle.std.specs.Prelude.{◌≡◌};
 ghost use Rattle.level.specs.Stages.{walls_next, calls_next};
 
 // Which line is wanted next: the count of a section, or one of the lines that are left of it.
-#[derive(Clone, Copy, Debug, PartialEq)]
+#[derive(Clone, Copy, PartialEq)]
 pub(crate) enum Stage {
     WallCount,
     Walls(usize),

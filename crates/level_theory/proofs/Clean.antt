@@ -4,12 +4,11 @@ use Rattle.std.specs.List.{AllByRecursion}
 use Rattle.std.proofs.lemmas.Fmt.{digits_decimal}
 use Rattle.level_theory.specs.Words.{digit, all_bytes}
 use Rattle.level_theory.specs.Levels.{Kind, arms, cards, form_of, LineCall, call_add, call_drop, call_near, call_within, call_island, call_route, Level, CallFits}
-use Rattle.level_theory.specs.Texts.{spaced, kind_word, call_words}
+use Rattle.level_theory.specs.Texts.{Without, SomePiece, Clean, spaced, kind_word, call_words}
 use Rattle.level_theory.specs.Reading.{Stage, Progress}
 use Rattle.level_theory.proofs.Numbers.{own, and_both}
-use Rattle.level_theory.proofs.Cutting.{Without, SomePiece}
 use Rattle.level_theory.proofs.Steps.{Step, step_header, step_wall_count, step_wall, step_call_count, step_call}
-use Rattle.level_theory.proofs.Sections.{Clean, Remains, no_more, one_more}
+use Rattle.level_theory.proofs.Sections.{Remains, no_more, one_more}
 
 digits_without : (c : ℕ) (w : List ℕ) → c < 48 → all_bytes digit w ≡ true → Without c w
 digits_without c [] h e = tt
@@ -58,7 +57,7 @@ some_walls : (kind : Kind) (ns : List ℕ) → length ns ≡ (form_of kind).wall
 some_walls arms ns e = omega arith
 some_walls cards ns e = omega arith
 
-header_clean : (kind : Kind) (d b k : ℕ) → d ≤ 1048576 → b ≤ 1048576 → k ≤ 1048576 → Clean (kind_word kind ∷ (decimal d ∷ (decimal b ∷ (decimal k ∷ []))))
+pub header_clean : (kind : Kind) (d b k : ℕ) → d ≤ 1048576 → b ≤ 1048576 → k ≤ 1048576 → Clean (kind_word kind ∷ (decimal d ∷ (decimal b ∷ (decimal k ∷ []))))
 header_clean arms d b k x y z = spoken (codes "arm") (d ∷ (b ∷ (k ∷ []))) 1048576 (refl, (refl, (refl, tt))) (refl, (refl, (refl, tt))) (lit< tt) (x, (y, (z, tt)))
 header_clean cards d b k x y z = spoken (codes "card") (d ∷ (b ∷ (k ∷ []))) 1048576 (refl, (refl, (refl, (refl, tt)))) (refl, (refl, (refl, (refl, tt)))) (lit< tt) (x, (y, (z, tt)))
 
@@ -81,7 +80,7 @@ without_append : (c : ℕ) (v w : List ℕ) → Without c v → Without c w → 
 without_append c [] w h k = k
 without_append c (b ∷ v) w h k = (h.0, without_append c v w h.1 k)
 
-spaced_without : (ws : List (List ℕ)) → AllByRecursion (Without 10) ws → Without 10 (spaced ws)
+pub spaced_without : (ws : List (List ℕ)) → AllByRecursion (Without 10) ws → Without 10 (spaced ws)
 spaced_without [] h = tt
 spaced_without (w ∷ []) h = h.0
 spaced_without (w ∷ (v ∷ ws)) h = without_append 10 w (32 ∷ spaced (v ∷ ws)) h.0 (refl, spaced_without (v ∷ ws) h.1)

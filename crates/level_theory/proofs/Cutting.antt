@@ -2,14 +2,7 @@
 use Rattle.std.proofs.Common.{◌≡◌, ℕ, Bool, true, false, cond, eqb, List, [], ◌∷◌, ◌++◌, map, sym, refl, ap, ◌∙◌, append_assoc, eq-eqb, eqb-true}
 use Rattle.std.specs.List.{AllByRecursion}
 use Rattle.level_theory.specs.Words.{onto, split}
-use Rattle.level_theory.specs.Texts.{joined, spaced, lines_of}
-
-abbrev pub Without : ℕ → List ℕ → Type 0
-Without c w = AllByRecursion (λ b. eqb b c ≡ false) w
-
-abbrev pub SomePiece : List (List ℕ) → Type 0
-SomePiece [] = ⊥
-SomePiece (w ∷ ws) = Unit {0}
+use Rattle.level_theory.specs.Texts.{joined, Without, SomePiece, spaced, lines_of}
 
 onto_some : (b : ℕ) (ws : List (List ℕ)) → SomePiece (onto b ws)
 onto_some b [] = tt

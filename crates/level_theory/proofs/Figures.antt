@@ -5,7 +5,7 @@ use Rattle.index.specs.Outcomes.{Outcome, gives, refuses}
 use Rattle.gnat.specs.Chosen.{outside}
 use Rattle.level_theory.specs.Words.{onto, split, words_of, pieces_of, same_bytes, number_word, Want, the_word, a_number, Taken, right, wrong, with_number, take_words}
 use Rattle.level_theory.specs.Levels.{Kind, arms, cards, Form, form_of, LineCall, Level, neighbours_outcome, then_neighbours, header_outcome}
-use Rattle.level_theory.specs.Reading.{Stage, at_header, at_wall_count, at_walls, at_call_count, at_calls, at_end, walls_left, calls_left, number_wants, setting_wants, count_wants, Letter, adds, drops, nears, withins, islands, routes, no_call, letter_of, call_wants, call_of, formed, carried, header_of, read_header, read_call_at, read_call, level_with, Progress, progress, then_level, then_call, read_line, read_rest, read_lines, start_reading, reading}
+use Rattle.level_theory.specs.Reading.{Stage, at_header, at_wall_count, at_walls, at_call_count, at_calls, at_end, walls_left, calls_left, number_wants, setting_wants, count_wants, Letter, letter_of, call_wants, call_of, formed, carried, header_of, read_header, read_call_at, read_call, level_with, Progress, progress, then_level, then_call, read_line, read_rest, read_lines, start_reading, reading}
 use Rattle.level_theory.specs.Accepting.{SmallTold}
 use Rattle.level_theory.proofs.Wanted.{Meets, taken_is}
 
@@ -100,14 +100,9 @@ read_call_small form line (w ∷ ws) l h = go (letter_of w)
     small : 2 + length ws ≤ 1048576
     small = omega arith
 
-    go : (x : Letter) → SmallTold (read_call_at form line x ws)
-    go adds = formed_line line 2 (call_wants form adds) ws (call_of adds) l small
-    go drops = formed_line line 2 (call_wants form drops) ws (call_of drops) l small
-    go nears = formed_line line 2 (call_wants form nears) ws (call_of nears) l small
-    go withins = formed_line line 2 (call_wants form withins) ws (call_of withins) l small
-    go islands = formed_line line 2 (call_wants form islands) ws (call_of islands) l small
-    go routes = formed_line line 2 (call_wants form routes) ws (call_of routes) l small
-    go no_call = (lit≤ tt, (l, (lit≤ tt, tt)))
+    go : (x : Option Letter) → SmallTold (read_call_at form line x ws)
+    go None = (lit≤ tt, (l, (lit≤ tt, tt)))
+    go (Some letter) = formed_line line 2 (call_wants form letter) ws (call_of letter) l small
 
 level_then : (o : Outcome Level) (f : Level → Progress) → SmallTold o → SmallTold (then_level o f)
 level_then (gives x) f s = tt

@@ -8,3 +8,10 @@ pub mod Whole
 pub mod Settings
 pub mod Accepted
 pub mod Figures
+pub mod Wrong
+pub mod Beyond
+pub mod Misread
+pub mod Short
+pub mod Leading
+pub mod Refused
+pub mod Exact

@@ -4,9 +4,9 @@ use Rattle.std.specs.List.{AllByRecursion}
 use Rattle.index.specs.Outcomes.{Outcome, gives, refuses}
 use Rattle.level_theory.specs.Words.{words_of}
 use Rattle.level_theory.specs.Levels.{Level}
-use Rattle.level_theory.specs.Texts.{spaced}
+use Rattle.level_theory.specs.Texts.{SomePiece, Clean, spaced}
 use Rattle.level_theory.specs.Reading.{Stage, at_header, at_wall_count, at_walls, at_call_count, at_calls, at_end, Progress, progress, read_line, read_rest, read_lines}
-use Rattle.level_theory.proofs.Cutting.{Without, joined_split, split_joined, SomePiece}
+use Rattle.level_theory.proofs.Cutting.{joined_split, split_joined}
 use Rattle.level_theory.proofs.Steps.{Step, read_right, read_is}
 
 -- the lines from a stage on, and the level that they make of the one so far
@@ -52,13 +52,7 @@ lines_are (gives p) line (l ∷ (m ∷ ms)) all e =
       },
     )
 
--- the words of each line are without spaces and newlines, and there is one
-pub record Clean (ws : List (List ℕ)) : Type 0 where
-  pub some : SomePiece ws
-  pub spaces : AllByRecursion (Without 32) ws
-  pub newlines : AllByRecursion (Without 10) ws
-
-read_more : (p : Progress) (line : ℕ) (l : List ℕ) (pieces : List (List ℕ)) → SomePiece pieces → read_lines (gives p) line (l ∷ pieces) ≡ read_lines (read_line p.stage line p.level (words_of l)) (line + 1) pieces
+pub read_more : (p : Progress) (line : ℕ) (l : List ℕ) (pieces : List (List ℕ)) → SomePiece pieces → read_lines (gives p) line (l ∷ pieces) ≡ read_lines (read_line p.stage line p.level (words_of l)) (line + 1) pieces
 read_more p line l [] s = absurd s
 read_more p line l (m ∷ ms) s = refl
 

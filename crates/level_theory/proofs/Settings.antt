@@ -42,12 +42,6 @@ header_at : (degree bucket k : ℕ) {A : Type 0} → ((degree ≡ 0) → (bucket
 header_at degree bucket k scan tree true f o = let z = and_both (eqb degree 0) (eqb bucket 0) f in scan (eqb-true degree 0 z.0) (eqb-true bucket 0 z.1) (neighbours_hold k o)
 header_at degree bucket k scan tree false f o = tree (tree_holds degree bucket k o)
 
-pub k_holds : (degree bucket k : ℕ) → header_outcome degree bucket k ≡ gives tt → (1 ≤ k) × (k ≤ 8)
-k_holds degree bucket k e = header_at degree bucket k (λ d b n. n) (λ t. (t.k_least, t.k_most)) (eqb degree 0 && eqb bucket 0) refl e
-
-pub tree_chosen : (degree bucket k : ℕ) → (degree ≡ 0 → ⊥) → header_outcome degree bucket k ≡ gives tt → settings_outcome degree bucket ≡ gives (degree, bucket)
-tree_chosen degree bucket k some e = header_at degree bucket k (λ d b n. absurd (some d)) (λ t. t.chosen) (eqb degree 0 && eqb bucket 0) refl e
-
 -- settings that hold are small
 pub settings_small : (degree bucket k : ℕ) → header_outcome degree bucket k ≡ gives tt → (degree ≤ 1048576) × (bucket ≤ 1048576) × (k ≤ 1048576)
 settings_small degree bucket k e = header_at degree bucket k (λ d b n. (omega arith, omega arith, omega arith)) (λ t. (omega arith, omega arith, omega arith)) (eqb degree 0 && eqb bucket 0) refl e

@@ -1,11 +1,11 @@
 -- One line of a level: read at a stage exactly if it is written so there.
-use Rattle.std.proofs.Common.{◌≡◌, ℕ, zero, suc, ◌^◌, ◌<◌, ◌≤◌, Bool, true, false, cond, List, [], ◌∷◌, ◌++◌, map, length, get_or, drop, codes, decimal, sym, refl, ap, ◌∙◌, subst, arith, lit<}
+use Rattle.std.proofs.Common.{◌≡◌, ℕ, zero, suc, ◌^◌, ◌<◌, ◌≤◌, Bool, true, false, cond, List, [], ◌∷◌, ◌++◌, map, length, get_or, drop, Some, None, codes, decimal, Option, sym, refl, ap, ◌∙◌, subst, arith, lit<}
 use Rattle.std.specs.List.{AllByRecursion}
 use Rattle.index.specs.Outcomes.{Outcome, gives, refuses}
 use Rattle.level_theory.specs.Words.{same_bytes, a_number, Taken, right, wrong, take_words}
 use Rattle.level_theory.specs.Levels.{Kind, arms, cards, Form, form_of, LineCall, call_add, call_drop, call_near, call_within, call_island, call_route, Level, header_outcome, NumbersFit, WallFits, CallFits}
 use Rattle.level_theory.specs.Texts.{kind_word, call_words, count_words}
-use Rattle.level_theory.specs.Reading.{Stage, at_header, at_wall_count, at_walls, at_call_count, at_calls, at_end, walls_left, calls_left, number_wants, element_wants, setting_wants, count_wants, Letter, adds, drops, nears, withins, islands, routes, no_call, letter_of, call_wants, call_of, formed, carried, level_with, header_level, header_of, read_header, read_call_at, read_call, Progress, progress, then_level, then_call, read_line}
+use Rattle.level_theory.specs.Reading.{Stage, at_header, at_wall_count, at_walls, at_call_count, at_calls, at_end, walls_left, calls_left, number_wants, element_wants, setting_wants, count_wants, Letter, adds, drops, nears, withins, islands, routes, letter_of, call_wants, call_of, formed, carried, level_with, header_level, header_of, read_header, read_call_at, read_call, Progress, progress, then_level, then_call, read_line}
 use Rattle.level_theory.proofs.Numbers.{number_right}
 use Rattle.level_theory.proofs.Wanted.{spelled, Meets, Small, same_is, taken_right, taken_is}
 
@@ -17,12 +17,12 @@ pub data Step : Stage → Level → List (List ℕ) → Progress → Type 0 wher
   step_call_count : (level : Level) (n : ℕ) → n ≤ 512 → Step at_call_count level (count_words (codes "calls") n) (progress (calls_left n) level)
   step_call : (level : Level) (n : ℕ) (call : LineCall) → CallFits (form_of level.kind) call → Step (at_calls (suc n)) level (call_words call) (progress (calls_left n) (level_with level level.walls (level.calls ++ (call ∷ []))))
 
-form_small : (kind : Kind) → (form_of kind).largest < 2 ^ 64
+pub form_small : (kind : Kind) → (form_of kind).largest < 2 ^ 64
 form_small arms = lit< tt
 form_small cards = lit< tt
 
 -- numbers of one limit
-small_numbers : (n largest : ℕ) → largest < 2 ^ 64 → Small (number_wants n largest)
+pub small_numbers : (n largest : ℕ) → largest < 2 ^ 64 → Small (number_wants n largest)
 small_numbers zero largest h = tt
 small_numbers (suc n) largest h = (h, small_numbers n largest h)
 
@@ -67,7 +67,7 @@ module _ (line : ℕ) where
       go arms = rw (settings, o) refl
       go cards = rw (settings, o) refl
 
-  call_right : (form : Form) (call : LineCall) → form.largest < 2 ^ 64 → CallFits form call → read_call form line (call_words call) ≡ gives call
+  pub call_right : (form : Form) (call : LineCall) → form.largest < 2 ^ 64 → CallFits form call → read_call form line (call_words call) ≡ gives call
   call_right form (call_add e) s f = rw (taken_numbers form.numbers form.largest 2 e s f) refl
   call_right form (call_drop n) s f = rw (taken_right (call_wants form drops) (n ∷ []) 2 (lit< tt, tt) (f, tt)) refl
   call_right form (call_near k e) s f = rw (number_right 1048576 k (lit< tt) f.0, taken_numbers form.numbers form.largest 3 e s f.1) refl
@@ -83,7 +83,7 @@ module _ (line : ℕ) where
   read_right stage level ws p (step_call level' n call f) = ap (λ x. then_call x (λ c. progress (calls_left n) (level_with level level.walls (level.calls ++ (c ∷ []))))) (call_right (form_of level.kind) call (form_small level.kind) f)
 
 -- what an outcome that gives says of its parts
-formed_gives : {A : Type 0} (line : ℕ) (t : Taken) (f : List ℕ → Outcome A) (x : A) → formed line t f ≡ gives x → (ns : List ℕ) × (t ≡ right ns) × (f ns ≡ gives x)
+pub formed_gives : {A : Type 0} (line : ℕ) (t : Taken) (f : List ℕ → Outcome A) (x : A) → formed line t f ≡ gives x → (ns : List ℕ) × (t ≡ right ns) × (f ns ≡ gives x)
 formed_gives line (right ns) f x e = (ns, refl, e)
 formed_gives line (wrong i) f x e = absurd (let z : ◌≡◌ {A = ℕ} 0 1 = cc in omega arith)
 
@@ -95,7 +95,7 @@ level_gives : (o : Outcome Level) (f : Level → Progress) (p : Progress) → th
 level_gives (gives level) f p e = (level, refl, cc)
 level_gives (refuses n figures) f p e = absurd (let z : ◌≡◌ {A = ℕ} 0 1 = cc in omega arith)
 
-call_gives : (o : Outcome LineCall) (f : LineCall → Progress) (p : Progress) → then_call o f ≡ gives p → (call : LineCall) × (o ≡ gives call) × (f call ≡ p)
+pub call_gives : (o : Outcome LineCall) (f : LineCall → Progress) (p : Progress) → then_call o f ≡ gives p → (call : LineCall) × (o ≡ gives call) × (f call ≡ p)
 call_gives (gives call) f p e = (call, refl, cc)
 call_gives (refuses n figures) f p e = absurd (let z : ◌≡◌ {A = ℕ} 0 1 = cc in omega arith)
 
@@ -103,27 +103,27 @@ given_same : {A : Type 0} (x y : A) → gives x ≡ gives y → x ≡ y
 given_same x y e = cc
 
 -- the word of a letter
-abbrev Picked : List ℕ → Letter → Type 0
-Picked w adds = w ≡ codes "a"
-Picked w drops = w ≡ codes "d"
-Picked w nears = w ≡ codes "n"
-Picked w withins = w ≡ codes "w"
-Picked w islands = w ≡ codes "i"
-Picked w routes = w ≡ codes "r"
-Picked w no_call = Unit {0}
+abbrev Picked : List ℕ → Option Letter → Type 0
+Picked w (Some adds) = w ≡ codes "a"
+Picked w (Some drops) = w ≡ codes "d"
+Picked w (Some nears) = w ≡ codes "n"
+Picked w (Some withins) = w ≡ codes "w"
+Picked w (Some islands) = w ≡ codes "i"
+Picked w (Some routes) = w ≡ codes "r"
+Picked w None = Unit {0}
 
-pick : (w v : List ℕ) (l other : Letter) → (w ≡ v → Picked w l) → Picked w other → (b : Bool) → same_bytes w v ≡ b → Picked w (cond b l other)
+pick : (w v : List ℕ) (l other : Option Letter) → (w ≡ v → Picked w l) → Picked w other → (b : Bool) → same_bytes w v ≡ b → Picked w (cond b l other)
 pick w v l other is rest true e = is (same_is w v e)
 pick w v l other is rest false e = rest
 
 picked : (w : List ℕ) → Picked w (letter_of w)
 picked w =
-    pick w (codes "a") adds _ (λ e. e)
-    (pick w (codes "d") drops _ (λ e. e)
-    (pick w (codes "n") nears _ (λ e. e)
-    (pick w (codes "w") withins _ (λ e. e)
-    (pick w (codes "i") islands _ (λ e. e)
-    (pick w (codes "r") routes no_call (λ e. e) tt _ refl) _ refl) _ refl) _ refl) _ refl) _ refl
+    pick w (codes "a") (Some adds) _ (λ e. e)
+    (pick w (codes "d") (Some drops) _ (λ e. e)
+    (pick w (codes "n") (Some nears) _ (λ e. e)
+    (pick w (codes "w") (Some withins) _ (λ e. e)
+    (pick w (codes "i") (Some islands) _ (λ e. e)
+    (pick w (codes "r") (Some routes) None (λ e. e) tt _ refl) _ refl) _ refl) _ refl) _ refl) _ refl
 
 -- a line that is read so is written so
 abbrev CallIs : Form → List (List ℕ) → LineCall → Type 0
@@ -154,44 +154,44 @@ module _ (line : ℕ) where
       go [] r = absurd r.1
       go (n ∷ ns) r = let f = numbers_met form.numbers form.largest ns r.1.1 in (r.0 ∙ ap (λ x. decimal n ∷ x) (spelled_numbers form.numbers form.largest ns f.0), (r.1.0, f))
 
-  call_is_at : (form : Form) (w : List ℕ) (ws : List (List ℕ)) (call : LineCall) → form.largest < 2 ^ 64 → (l : Letter) → Picked w l → read_call_at form line l ws ≡ gives call → CallIs form (w ∷ ws) call
-  call_is_at form w ws call s adds is e =
+  call_is_at : (form : Form) (w : List ℕ) (ws : List (List ℕ)) (call : LineCall) → form.largest < 2 ^ 64 → (l : Option Letter) → Picked w l → read_call_at form line l ws ≡ gives call → CallIs form (w ∷ ws) call
+  call_is_at form w ws call s (Some adds) is e =
       let r = formed_gives line (take_words (call_wants form adds) ws 2) (λ ns. gives (call_of adds ns)) call e in
       let t = numbers_taken form.numbers form.largest 2 ws r.0 s r.1 in
       let P : LineCall → Type 0 = CallIs form (w ∷ ws) in
       let words = t.0 in
       subst P (given_same _ _ r.2) (cc, t.1)
-  call_is_at form w ws call s drops is e =
+  call_is_at form w ws call s (Some drops) is e =
       let r = formed_gives line (take_words (call_wants form drops) ws 2) (λ ns. gives (call_of drops ns)) call e in
       let t = one_number form ws r.0 r.1 in
       let P : LineCall → Type 0 = CallIs form (w ∷ ws) in
       let words = t.0 in
       subst P (given_same _ _ r.2) (cc, t.1)
-  call_is_at form w ws call s nears is e =
+  call_is_at form w ws call s (Some nears) is e =
       let r = formed_gives line (take_words (call_wants form nears) ws 2) (λ ns. gives (call_of nears ns)) call e in
       let t = number_and_element form ws r.0 s r.1 in
       let P : LineCall → Type 0 = CallIs form (w ∷ ws) in
       let words = t.0 in
       subst P (given_same _ _ r.2) (cc, t.1)
-  call_is_at form w ws call s withins is e =
+  call_is_at form w ws call s (Some withins) is e =
       let r = formed_gives line (take_words (call_wants form withins) ws 2) (λ ns. gives (call_of withins ns)) call e in
       let t = number_and_element form ws r.0 s r.1 in
       let P : LineCall → Type 0 = CallIs form (w ∷ ws) in
       let words = t.0 in
       subst P (given_same _ _ r.2) (cc, t.1)
-  call_is_at form w ws call s islands is e =
+  call_is_at form w ws call s (Some islands) is e =
       let r = formed_gives line (take_words (call_wants form islands) ws 2) (λ ns. gives (call_of islands ns)) call e in
       let t = one_number form ws r.0 r.1 in
       let P : LineCall → Type 0 = CallIs form (w ∷ ws) in
       let words = t.0 in
       subst P (given_same _ _ r.2) (cc, t.1)
-  call_is_at form w ws call s routes is e =
+  call_is_at form w ws call s (Some routes) is e =
       let r = formed_gives line (take_words (call_wants form routes) ws 2) (λ ns. gives (call_of routes ns)) call e in
       let t = two_numbers ws r.0 r.1 in
       let P : LineCall → Type 0 = CallIs form (w ∷ ws) in
       let words = t.0 in
       subst P (given_same _ _ r.2) (cc, t.1)
-  call_is_at form w ws call s no_call is e = absurd (let z : ◌≡◌ {A = ℕ} 0 1 = cc in omega arith)
+  call_is_at form w ws call s None is e = absurd (let z : ◌≡◌ {A = ℕ} 0 1 = cc in omega arith)
 
   call_is : (form : Form) (ws : List (List ℕ)) (call : LineCall) → form.largest < 2 ^ 64 → read_call form line ws ≡ gives call → CallIs form ws call
   call_is form [] call s e = absurd (let z : ◌≡◌ {A = ℕ} 0 1 = cc in omega arith)

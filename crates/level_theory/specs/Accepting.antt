@@ -12,6 +12,10 @@ pub record IsText (bytes : List ℕ) (level : Level) : Type 0 where
   pub valid : Valid level
   pub text : bytes ≡ text_of level
 
+-- a level whose text is a file that is accepted
+abbrev pub Accepted : Level → Type 0
+Accepted level = IsText (text_of level) level
+
 -- a file is read as a level exactly if it is that level's text
 abbrev pub AcceptsExactly : List ℕ → Type 0
 AcceptsExactly bytes = (level : Level) → (reading bytes ≡ gives level → IsText bytes level) × (IsText bytes level → reading bytes ≡ gives level)

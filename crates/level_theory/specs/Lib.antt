@@ -3,3 +3,4 @@ pub mod Levels
 pub mod Texts
 pub mod Reading
 pub mod Accepting
+pub mod Refusing

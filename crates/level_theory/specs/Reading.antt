@@ -1,5 +1,5 @@
 -- How a level file is read: which level it is, or its first fault by number and figures.
-use Rattle.std.specs.Prelude.{ℕ, zero, suc, ◌+◌, cond, List, [], ◌∷◌, ◌++◌, length, drop, codes, nat_le, slice_index}
+use Rattle.std.specs.Prelude.{ℕ, zero, suc, ◌+◌, cond, List, [], ◌∷◌, ◌++◌, length, drop, Some, None, codes, Option, nat_le, slice_index}
 use Rattle.index.specs.Outcomes.{Outcome, gives, refuses}
 use Rattle.level_theory.specs.Words.{words_of, pieces_of, same_bytes, Want, the_word, a_number, Taken, right, wrong, take_words}
 use Rattle.level_theory.specs.Levels.{Kind, arms, cards, Form, form_of, LineCall, call_add, call_drop, call_near, call_within, call_island, call_route, Level, header_outcome}
@@ -43,11 +43,10 @@ pub data Letter : Type 0 where
   withins : Letter
   islands : Letter
   routes : Letter
-  no_call : Letter
 
--- the first letter of a call line is the whole word
-abbrev pub letter_of : List ℕ → Letter
-letter_of w = cond (same_bytes w (codes "a")) adds (cond (same_bytes w (codes "d")) drops (cond (same_bytes w (codes "n")) nears (cond (same_bytes w (codes "w")) withins (cond (same_bytes w (codes "i")) islands (cond (same_bytes w (codes "r")) routes no_call)))))
+-- the letter of a call line is its whole first word
+abbrev pub letter_of : List ℕ → Option Letter
+letter_of w = cond (same_bytes w (codes "a")) (Some adds) (cond (same_bytes w (codes "d")) (Some drops) (cond (same_bytes w (codes "n")) (Some nears) (cond (same_bytes w (codes "w")) (Some withins) (cond (same_bytes w (codes "i")) (Some islands) (cond (same_bytes w (codes "r")) (Some routes) None)))))
 
 -- what a call line wants after its letter
 abbrev pub call_wants : Form → Letter → List Want
@@ -57,7 +56,6 @@ call_wants form nears = a_number 1048576 ∷ element_wants form
 call_wants form withins = a_number 1048576 ∷ element_wants form
 call_wants form islands = a_number 65535 ∷ []
 call_wants form routes = a_number 65535 ∷ (a_number 65535 ∷ [])
-call_wants form no_call = []
 
 -- the call of a letter and the numbers behind it
 abbrev pub call_of : Letter → List ℕ → LineCall
@@ -67,7 +65,6 @@ call_of nears ns = call_near (slice_index ns 0) (drop 1 ns)
 call_of withins ns = call_within (slice_index ns 0) (drop 1 ns)
 call_of islands ns = call_island (slice_index ns 0)
 call_of routes ns = call_route (slice_index ns 0) (slice_index ns 1)
-call_of no_call ns = call_add ns
 
 -- what a line that has its form gives, or its first wrong word by refusal 8
 abbrev pub formed : {A : Type 0} → ℕ → Taken → (List ℕ → Outcome A) → Outcome A
@@ -92,14 +89,9 @@ abbrev pub read_header : ℕ → List (List ℕ) → Outcome Level
 read_header line [] = refuses 8 (line ∷ (1 ∷ []))
 read_header line (w ∷ ws) = cond (same_bytes w (codes "arm")) (header_of line arms ws) (cond (same_bytes w (codes "card")) (header_of line cards ws) (refuses 8 (line ∷ (1 ∷ []))))
 
-abbrev pub read_call_at : Form → ℕ → Letter → List (List ℕ) → Outcome LineCall
-read_call_at form line adds ws = formed line (take_words (call_wants form adds) ws 2) (λ ns. gives (call_of adds ns))
-read_call_at form line drops ws = formed line (take_words (call_wants form drops) ws 2) (λ ns. gives (call_of drops ns))
-read_call_at form line nears ws = formed line (take_words (call_wants form nears) ws 2) (λ ns. gives (call_of nears ns))
-read_call_at form line withins ws = formed line (take_words (call_wants form withins) ws 2) (λ ns. gives (call_of withins ns))
-read_call_at form line islands ws = formed line (take_words (call_wants form islands) ws 2) (λ ns. gives (call_of islands ns))
-read_call_at form line routes ws = formed line (take_words (call_wants form routes) ws 2) (λ ns. gives (call_of routes ns))
-read_call_at form line no_call ws = refuses 8 (line ∷ (1 ∷ []))
+abbrev pub read_call_at : Form → ℕ → Option Letter → List (List ℕ) → Outcome LineCall
+read_call_at form line None ws = refuses 8 (line ∷ (1 ∷ []))
+read_call_at form line (Some letter) ws = formed line (take_words (call_wants form letter) ws 2) (λ ns. gives (call_of letter ns))
 
 abbrev pub read_call : Form → ℕ → List (List ℕ) → Outcome LineCall
 read_call form line [] = refuses 8 (line ∷ (1 ∷ []))

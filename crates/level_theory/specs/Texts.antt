@@ -1,5 +1,6 @@
 -- The text of a level.
-use Rattle.std.specs.Prelude.{ℕ, List, [], ◌∷◌, ◌++◌, map, length, codes, decimal}
+use Rattle.std.specs.Prelude.{◌≡◌, ℕ, false, List, [], ◌∷◌, ◌++◌, map, length, codes, decimal, ◌==◌}
+use Rattle.std.specs.List.{AllByRecursion}
 use Rattle.level_theory.specs.Levels.{Kind, arms, cards, LineCall, call_add, call_drop, call_near, call_within, call_island, call_route, Level}
 
 -- pieces with a byte between each two
@@ -7,6 +8,20 @@ abbrev pub joined : ℕ → List (List ℕ) → List ℕ
 joined c [] = []
 joined c (w ∷ []) = w
 joined c (w ∷ (v ∷ ws)) = w ++ (c ∷ joined c (v ∷ ws))
+
+-- the byte c is not among these
+abbrev pub Without : ℕ → List ℕ → Type 0
+Without c w = AllByRecursion (λ b. (b == c) ≡ false) w
+
+abbrev pub SomePiece : List (List ℕ) → Type 0
+SomePiece [] = ⊥
+SomePiece (w ∷ ws) = Unit {0}
+
+-- the words of a line: one or more, none with a space or a byte 10
+pub record Clean (ws : List (List ℕ)) : Type 0 where
+  pub some : SomePiece ws
+  pub spaces : AllByRecursion (Without 32) ws
+  pub newlines : AllByRecursion (Without 10) ws
 
 -- words parted by one space
 abbrev pub spaced : List (List ℕ) → List ℕ

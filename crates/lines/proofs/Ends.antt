@@ -1,9 +1,9 @@
 -- Lines that are read to their end. Assumes nothing.
-use Rattle.std.proofs.Common.{◌≡◌, ℕ, true, false, cond, List, [], ◌∷◌, get_or, Ok, Err, codes, Option, Result, sym, refl, ap, ◌∙◌, arith}
+use Rattle.std.proofs.Common.{◌≡◌, ℕ, true, false, cond, List, [], ◌∷◌, get_or, Some, None, Ok, Err, codes, Option, Result, sym, refl, ap, ◌∙◌, arith}
 use Rattle.index.specs.Outcomes.{Outcome, gives, refuses}
 use Rattle.level_theory.specs.Words.{same_bytes, Taken, right, wrong, take_words}
 use Rattle.level_theory.specs.Levels.{Kind as Kinds, Form, LineCall, Level, arms, cards, header_outcome}
-use Rattle.level_theory.specs.Reading.{Letter, adds, drops, nears, withins, islands, routes, no_call, letter_of, call_wants, call_of, formed, carried, setting_wants, header_level, header_of, read_header, read_call, read_call_at}
+use Rattle.level_theory.specs.Reading.{Letter, letter_of, call_wants, call_of, formed, carried, setting_wants, header_level, header_of, read_header, read_call, read_call_at}
 use Rattle.words.specs.declared.cursor.Misplaced.{Misplaced}
 use Rattle.words.specs.Tokens.{Word}
 use Rattle.words.specs.Cursors.{Part, got, end_of, first_word, words_after, place_after}
@@ -37,17 +37,17 @@ call_again listed (Within r e) = refl
 call_again listed (Island n) = refl
 call_again listed (Route a b) = refl
 
-abbrev pub call_outcome : ℕ → Letter → Part → Outcome LineCall
-call_outcome line letter p = formed line (whole p) (λ ns. gives (call_of letter ns))
+-- the call that the numbers behind a letter give
+abbrev pub call_said : ℕ → Option Letter → List ℕ → Outcome LineCall
+call_said line None ns = refuses 8 (line ∷ (1 ∷ []))
+call_said line (Some letter) ns = gives (call_of letter ns)
 
-call_formed : (form : Form) (line : ℕ) (letter : Letter) (ws : List (List ℕ)) → read_call_at form line letter ws ≡ call_outcome line letter (call_part form letter ws 2)
-call_formed form line adds ws = ap (λ t. formed line t (λ ns. gives (call_of adds ns))) (take_part (call_wants form adds) ws 2)
-call_formed form line drops ws = ap (λ t. formed line t (λ ns. gives (call_of drops ns))) (take_part (call_wants form drops) ws 2)
-call_formed form line nears ws = ap (λ t. formed line t (λ ns. gives (call_of nears ns))) (take_part (call_wants form nears) ws 2)
-call_formed form line withins ws = ap (λ t. formed line t (λ ns. gives (call_of withins ns))) (take_part (call_wants form withins) ws 2)
-call_formed form line islands ws = ap (λ t. formed line t (λ ns. gives (call_of islands ns))) (take_part (call_wants form islands) ws 2)
-call_formed form line routes ws = ap (λ t. formed line t (λ ns. gives (call_of routes ns))) (take_part (call_wants form routes) ws 2)
-call_formed form line no_call ws = refl
+abbrev pub call_outcome : ℕ → Option Letter → Part → Outcome LineCall
+call_outcome line letter p = formed line (whole p) (call_said line letter)
+
+call_formed : (form : Form) (line : ℕ) (letter : Option Letter) (ws : List (List ℕ)) → read_call_at form line letter ws ≡ call_outcome line letter (call_part form letter ws 2)
+call_formed form line None ws = refl
+call_formed form line (Some letter) ws = ap (λ t. formed line t (λ ns. gives (call_of letter ns))) (take_part (call_wants form letter) ws 2)
 
 call_by_word : (form : Form) (line : ℕ) (ws : List (List ℕ)) → read_call form line ws ≡ call_outcome line (named (sole (first_word ws 1))) (call_part form (named (sole (first_word ws 1))) (words_after ws) (place_after ws 1))
 call_by_word form line [] = refl
@@ -65,13 +65,13 @@ call_read form ws i word letter vs j p one a b f g taken line =
     ∙ ap (λ k. call_outcome line (named (sole (first_word ws 1))) (call_part form (named (sole (first_word ws 1))) (words_after ws) k)) (g ∙ ap (place_after ws) one)
     ∙ sym (call_by_word form line ws)
 
-pub call_gives : {E : Type 0} (listed : E → List ℕ) (call : CallLine E) (line : ℕ) (letter : Letter) (ws : List (List ℕ)) (i : ℕ) → letter_shown call ≡ letter → Ok tt ≡ end_of ws i → gives (call_shown listed call) ≡ call_outcome line letter (got (call_numbers listed call) ws i)
+pub call_gives : {E : Type 0} (listed : E → List ℕ) (call : CallLine E) (line : ℕ) (letter : Option Letter) (ws : List (List ℕ)) (i : ℕ) → Some (letter_shown call) ≡ letter → Ok tt ≡ end_of ws i → gives (call_shown listed call) ≡ call_outcome line letter (got (call_numbers listed call) ws i)
 call_gives listed call line letter ws i e f =
-    ap gives (call_again listed call ∙ ap (λ l. call_of l (call_numbers listed call)) e)
-    ∙ ap (λ t. formed line t (λ ns. gives (call_of letter ns))) (ended (call_numbers listed call) ws i f)
+    ap gives (call_again listed call) ∙ ap (λ l. call_said line l (call_numbers listed call)) e
+    ∙ ap (λ t. formed line t (call_said line letter)) (ended (call_numbers listed call) ws i f)
 
-pub call_surplus : (ns : List ℕ) (line : ℕ) (letter : Letter) (ws : List (List ℕ)) (i : ℕ) (m : Misplaced) → Err m ≡ end_of ws i → refuses 8 (line ∷ (m.0 ∷ [])) ≡ call_outcome line letter (got ns ws i)
-call_surplus ns line letter ws i m e = ap (λ t. formed line t (λ ns. gives (call_of letter ns))) (surplus ns ws i m e)
+pub call_surplus : (ns : List ℕ) (line : ℕ) (letter : Option Letter) (ws : List (List ℕ)) (i : ℕ) (m : Misplaced) → Err m ≡ end_of ws i → refuses 8 (line ∷ (m.0 ∷ [])) ≡ call_outcome line letter (got ns ws i)
+call_surplus ns line letter ws i m e = ap (λ t. formed line t (call_said line letter)) (surplus ns ws i m e)
 
 -- line 1, its settings looked at last
 abbrev pub header_carried : Result (Kind × Asked) ReadFault → Outcome Level

@@ -6,7 +6,7 @@ use Rattle.std.proofs.lemmas.Bool.Decides.{Decides-eqb}
 use Rattle.std.specs.Cmp.Lexicographic.{pointwise}
 use Rattle.std.specs.Option.{ok_or}
 use Rattle.level_theory.specs.Words.{letter, digit, all_bytes, same_bytes, Want, the_word, wrong, take_words}
-use Rattle.level_theory.specs.Reading.{no_call, letter_of, setting_wants}
+use Rattle.level_theory.specs.Reading.{letter_of, setting_wants}
 use Rattle.words.specs.declared.cursor.Misplaced.{Misplaced}
 use Rattle.words.specs.Tokens.{Word, letters, digits, amiss, word_of, place_of, letters_of, shown_bytes}
 use Rattle.words.specs.Cursors.{first_word, words_after, place_after}
@@ -92,24 +92,24 @@ header_by_word (w ∷ ws) i = ap (λ k. with_kind k (settings_read (take_words s
 not_letter : (b c : ℕ) → letter b ≡ false → letter c ≡ true → eqb b c ≡ false
 not_letter b c f t = ne_eqb b c (λ e. let z : true ≡ false = sym t ∙ ap letter (sym e) ∙ f in let n : ◌≡◌ {A = ℕ} 0 1 = cc in omega arith)
 
-no_letter : (b : ℕ) → letter b ≡ false → letter_named b ≡ no_call
+no_letter : (b : ℕ) → letter b ≡ false → letter_named b ≡ None
 no_letter b f = rw (not_letter b 97 f refl, not_letter b 100 f refl, not_letter b 110 f refl, not_letter b 119 f refl, not_letter b 105 f refl, not_letter b 114 f refl)
 
 one_byte : (b : ℕ) → letter_of (b ∷ []) ≡ letter_named b
 one_byte b = simp and-true
 
-more_bytes : (b c : ℕ) (bs : List ℕ) → letter_of (b ∷ (c ∷ bs)) ≡ no_call
+more_bytes : (b c : ℕ) (bs : List ℕ) → letter_of (b ∷ (c ∷ bs)) ≡ None
 more_bytes b c bs = simp and-false
 
 pub letter_word : (w : List ℕ) (i : ℕ) → letter_of w ≡ named (sole (word_of w i))
 letter_word [] i = refl
 letter_word (b ∷ []) i = elim (letter b) as (λ t. letter b ≡ t → letter_of (b ∷ []) ≡ named (sole (cond (t && true) (letters (b ∷ []) i) (cond (all_bytes digit (b ∷ [])) (digits (b ∷ []) i) (amiss i))))) [
   | true ↦ λ e. one_byte b
-  | false ↦ λ e. one_byte b ∙ no_letter b e ∙ elim (all_bytes digit (b ∷ [])) as (λ t. no_call ≡ named (sole (cond t (digits (b ∷ []) i) (amiss i)))) [ true ↦ refl | false ↦ refl ]
+  | false ↦ λ e. one_byte b ∙ no_letter b e ∙ elim (all_bytes digit (b ∷ [])) as (λ t. None ≡ named (sole (cond t (digits (b ∷ []) i) (amiss i)))) [ true ↦ refl | false ↦ refl ]
 ] refl
-letter_word (b ∷ (c ∷ bs)) i = more_bytes b c bs ∙ elim (all_bytes letter (b ∷ (c ∷ bs))) as (λ t. no_call ≡ named (sole (cond t (letters (b ∷ (c ∷ bs)) i) (cond (all_bytes digit (b ∷ (c ∷ bs))) (digits (b ∷ (c ∷ bs)) i) (amiss i))))) [
+letter_word (b ∷ (c ∷ bs)) i = more_bytes b c bs ∙ elim (all_bytes letter (b ∷ (c ∷ bs))) as (λ t. None ≡ named (sole (cond t (letters (b ∷ (c ∷ bs)) i) (cond (all_bytes digit (b ∷ (c ∷ bs))) (digits (b ∷ (c ∷ bs)) i) (amiss i))))) [
   | true ↦ refl
-  | false ↦ elim (all_bytes digit (b ∷ (c ∷ bs))) as (λ t. no_call ≡ named (sole (cond t (digits (b ∷ (c ∷ bs)) i) (amiss i)))) [ true ↦ refl | false ↦ refl ]
+  | false ↦ elim (all_bytes digit (b ∷ (c ∷ bs))) as (λ t. None ≡ named (sole (cond t (digits (b ∷ (c ∷ bs)) i) (amiss i)))) [ true ↦ refl | false ↦ refl ]
 ]
 
 -- a word that is not the name

@@ -2,7 +2,7 @@
 use Rattle.std.specs.Prelude.{◌≡◌, ℕ, cond, List, [], ◌∷◌, Some, None, Ok, Err, Option, Result, ◌==◌}
 use Rattle.index.specs.Outcomes.{Outcome, gives, refuses}
 use Rattle.level_theory.specs.Levels.{Form, LineCall, call_add, call_drop, call_near, call_within, call_island, call_route}
-use Rattle.level_theory.specs.Reading.{Letter, adds, drops, nears, withins, islands, routes, no_call, call_wants}
+use Rattle.level_theory.specs.Reading.{Letter, adds, drops, nears, withins, islands, routes, call_wants}
 use Rattle.words.specs.declared.cursor.Misplaced.{Misplaced}
 use Rattle.words.specs.Tokens.{Word, letters, digits, amiss}
 use Rattle.words.specs.Cursors.{Part, lacks, part}
@@ -21,11 +21,11 @@ sole (digits w i) = None
 sole (amiss i) = None
 
 -- a, d, n, w, i and r
-abbrev pub letter_named : ℕ → Letter
-letter_named b = cond (b == 97) adds (cond (b == 100) drops (cond (b == 110) nears (cond (b == 119) withins (cond (b == 105) islands (cond (b == 114) routes no_call)))))
+abbrev pub letter_named : ℕ → Option Letter
+letter_named b = cond (b == 97) (Some adds) (cond (b == 100) (Some drops) (cond (b == 110) (Some nears) (cond (b == 119) (Some withins) (cond (b == 105) (Some islands) (cond (b == 114) (Some routes) None)))))
 
-abbrev pub named : Option ℕ → Letter
-named None = no_call
+abbrev pub named : Option ℕ → Option Letter
+named None = None
 named (Some b) = letter_named b
 
 -- the letter of a call, and the numbers behind it
@@ -54,17 +54,12 @@ call_shown listed (Island n) = call_island n
 call_shown listed (Route a b) = call_route a b
 
 -- the words behind the letter; if it names no call, the line's first word is wrong
-abbrev pub call_part : Form → Letter → List (List ℕ) → ℕ → Part
-call_part form adds ws i = part (call_wants form adds) ws i
-call_part form drops ws i = part (call_wants form drops) ws i
-call_part form nears ws i = part (call_wants form nears) ws i
-call_part form withins ws i = part (call_wants form withins) ws i
-call_part form islands ws i = part (call_wants form islands) ws i
-call_part form routes ws i = part (call_wants form routes) ws i
-call_part form no_call ws i = lacks 1 ws i
+abbrev pub call_part : Form → Option Letter → List (List ℕ) → ℕ → Part
+call_part form None ws i = lacks 1 ws i
+call_part form (Some letter) ws i = part (call_wants form letter) ws i
 
-abbrev pub CallNamed : {E : Type 0} → Letter → Result (CallLine E) Misplaced → Type 0
-CallNamed letter (Ok call) = letter_shown call ≡ letter
+abbrev pub CallNamed : {E : Type 0} → Option Letter → Result (CallLine E) Misplaced → Type 0
+CallNamed letter (Ok call) = Some (letter_shown call) ≡ letter
 CallNamed letter (Err m) = Unit {0}
 
 abbrev pub call_told : {E : Type 0} → ℕ → (E → List ℕ) → Result (CallLine E) Misplaced → Outcome LineCall

@@ -1,5 +1,5 @@
 // Call lines.
-ghost use Rattle.std.specs.Prelude.{◌≡◌, ℕ, ◌≤◌, [], ◌∷◌};
+ghost use Rattle.std.specs.Prelude.{◌≡◌, ℕ, ◌≤◌, [], ◌∷◌, IfOk};
 ghost use Rattle.level_theory.specs.Words.{a_number};
 ghost use Rattle.level_theory.specs.Levels.{form_of};
 ghost use Rattle.level_theory.specs.Reading.{element_wants, read_call};
@@ -12,7 +12,7 @@ use words::{Misplaced, Token, Words};
 use written::Written;
 
 // A call, as a line gives it.
-#[derive(Clone, Copy, Debug, PartialEq)]
+#[derive(Clone, Copy)]
 pub enum CallLine<E> {
     Add(E),
     Drop(u16),
@@ -25,7 +25,7 @@ pub enum CallLine<E> {
     Route(u16, u16),
 }
 
-// What stands where no call is put yet.
+// A vector of fixed room fills its places by it. Which call it is does not matter, and no derive makes one with a number.
 impl<E> Default for CallLine<E> {
     ghost is_default = { λ call. call ≡ Island 0 };
 
@@ -108,7 +108,8 @@ fn call_words<K: Written>(letter: Option<char>, words: &mut Words) -> Result<Cal
 // The first letter says which call it is, and is the whole word.
 pub fn call_line<K: Written>(words: &mut Words) -> Result<CallLine<K>, Misplaced>
     requires { words.old.place ≡ 1 }
-    ensures { (line : ℕ) → call_told line K.listed result ≡ read_call (form_of K.kind) line (words_left words.old) }
+    ensures told { (line : ℕ) → call_told line K.listed result ≡ read_call (form_of K.kind) line (words_left words.old) }
+    ensures spent { IfOk result (λ call. words_left words.new ≡ []) }
 {
     let letter = sole_letter(words.next());
     let call = call_words(letter, words)?;

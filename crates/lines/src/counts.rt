@@ -15,6 +15,7 @@ pub fn count_line(words: &mut Words, name: &[u8], most: u32) -> Result<u32, Misp
     requires letters { all_bytes letter name.now ≡ true }
     ensures taken { shown_taken (λ n. n ∷ []) result ≡ take_words (count_wants name.now most) (words_left words.old) words.old.place }
     ensures most { IfOk result (λ n. n ≤ most) }
+    ensures spent { IfOk result (λ n. words_left words.new ≡ []) }
 {
     let word = words.next();
     let misplaced = Misplaced(word.place());
@@ -28,7 +29,8 @@ pub fn count_line(words: &mut Words, name: &[u8], most: u32) -> Result<u32, Misp
 }
 
 pub fn wall_line<K: Written>(words: &mut Words) -> Result<K::Wall, Misplaced>
-    ensures { shown_taken K.bounds result ≡ take_words (wall_wants (form_of K.kind)) (words_left words.old) words.old.place }
+    ensures taken { shown_taken K.bounds result ≡ take_words (wall_wants (form_of K.kind)) (words_left words.old) words.old.place }
+    ensures spent { IfOk result (λ wall. words_left words.new ≡ []) }
 {
     let wall = K::wall_from_words(words)?;
     words.end()?;

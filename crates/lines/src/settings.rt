@@ -8,7 +8,7 @@ use gnat::chosen::choose;
 use gnat::settings::Settings;
 use index::refusal::Refusal;
 
-// A degree of 0 with a bucket of 0 stands for the scan, else they are those of a tree.
+// A level writes a scan as degree 0 with bucket 0, else they are those of a tree.
 fn choose_tree(degree: u32, bucket: u32) -> Result<Option<Settings>, Refusal>
     ensures { told_tree result ≡ tree_outcome degree bucket }
 {
@@ -24,7 +24,7 @@ pub fn check_settings(degree: u32, bucket: u32, k: u32) -> Result<Header, Refusa
     ensures { told_header result ≡ numbers_if (header_outcome degree bucket k) (degree ∷ (bucket ∷ (k ∷ []))) }
 {
     let tree = choose_tree(degree, bucket)?;
-    if k < 1 || k > 8 {
+    if !(1..=8).contains(&k) {
         return Err(Refusal::Setting(k));
     }
     Ok(Header { tree, k })

@@ -19,7 +19,7 @@ use Rattle.lines.specs.Calls.{call_shown}
 use Rattle.history.specs.declared.Call.{Call}
 use Rattle.history.specs.declared.Call.TheVariants as call
 use Rattle.play_theory.specs.Answering.{Pairs, set_call, Answered}
-use Rattle.player.specs.Calls.{line_call, blank_lists}
+use Rattle.player.specs.Calls.{hit_places, line_call, blank_lists}
 use Rattle.play.specs.Levels.{level_call, KindAnswered}
 
 pub built_back : {W : Type 0} (bounds : W → List ℕ) (built : List ℕ → W) → ((w : W) → built (bounds w) ≡ w) → (ws : List W) → map built (map bounds ws) ≡ ws
@@ -30,8 +30,8 @@ module _ {E C : Type 0} (listed : E → List ℕ) (made : List ℕ → E) (faith
   one_call : (l : CallLine E) → level_call made pairs (call_shown listed l) ≡ set_call passes (line_call l checker)
   one_call (line.Add e) = (λ i. call.Add (faithful e i) (same i))
   one_call (line.Drop n) = refl
-  one_call (line.Near k e) = (λ i. call.Near (faithful e i) k 16)
-  one_call (line.Within r e) = (λ i. call.Within (faithful e i) r 16)
+  one_call (line.Near k e) = (λ i. call.Near (faithful e i) k hit_places)
+  one_call (line.Within r e) = (λ i. call.Within (faithful e i) r hit_places)
   one_call (line.Island n) = refl
   one_call (line.Route a b) = refl
 
@@ -47,15 +47,15 @@ abbrev mix_pairs : MixChecker → Card → Card → Bool
 mix_pairs c = mix_passes c.walls.now
 
 -- levels of arms
-pub arms_answered : (checker : StepChecker) (lines : List (CallLine Arm)) (k : ℕ) (out : List ℕ) (o : Outcome ℕ) (after : List ℕ) → Answered pose_distance (start k 64) (map (λ l. set_call step_pairs (line_call l checker)) lines) blank_lists 0 0 out o after → KindAnswered arms k (map arm_written.wall_numbers checker.walls.now) (map (call_shown arm_written.arm_numbers) lines) out o after
-arms_answered checker lines k out o after x =
-    let P : List (Call Arm (Pairs Arm)) → Type 0 = λ cs. Answered pose_distance (start k 64) cs blank_lists 0 0 out o after in
+pub arms_answered : (checker : StepChecker) (lines : List (CallLine Arm)) (k : ℕ) (out : List ℕ) (o : Outcome ℕ) (end : ℕ) (after : List ℕ) → Answered pose_distance (start k 64) (map (λ l. set_call step_pairs (line_call l checker)) lines) blank_lists 0 0 out o end after → KindAnswered arms k (map arm_written.wall_numbers checker.walls.now) (map (call_shown arm_written.arm_numbers) lines) out o end after
+arms_answered checker lines k out o end after x =
+    let P : List (Call Arm (Pairs Arm)) → Type 0 = λ cs. Answered pose_distance (start k 64) cs blank_lists 0 0 out o end after in
     let walls : step_passes (map arm_written.wall_of (map arm_written.wall_numbers checker.walls.now)) ≡ step_passes checker.walls.now = ap step_passes (built_back arm_written.wall_numbers arm_written.wall_of arm_written.wall_faithful checker.walls.now) in
     subst P (sym (all_calls arm_written.arm_numbers arm_written.arm_of arm_written.arm_faithful step_pairs checker (step_passes (map arm_written.wall_of (map arm_written.wall_numbers checker.walls.now))) walls lines)) x
 
 -- levels of cards
-pub cards_answered : (checker : MixChecker) (lines : List (CallLine Card)) (k : ℕ) (out : List ℕ) (o : Outcome ℕ) (after : List ℕ) → Answered card_distance (start k 64) (map (λ l. set_call mix_pairs (line_call l checker)) lines) blank_lists 0 0 out o after → KindAnswered cards k (map card_written.wall_numbers checker.walls.now) (map (call_shown card_written.card_numbers) lines) out o after
-cards_answered checker lines k out o after x =
-    let P : List (Call Card (Pairs Card)) → Type 0 = λ cs. Answered card_distance (start k 64) cs blank_lists 0 0 out o after in
+pub cards_answered : (checker : MixChecker) (lines : List (CallLine Card)) (k : ℕ) (out : List ℕ) (o : Outcome ℕ) (end : ℕ) (after : List ℕ) → Answered card_distance (start k 64) (map (λ l. set_call mix_pairs (line_call l checker)) lines) blank_lists 0 0 out o end after → KindAnswered cards k (map card_written.wall_numbers checker.walls.now) (map (call_shown card_written.card_numbers) lines) out o end after
+cards_answered checker lines k out o end after x =
+    let P : List (Call Card (Pairs Card)) → Type 0 = λ cs. Answered card_distance (start k 64) cs blank_lists 0 0 out o end after in
     let walls : mix_passes (map card_written.wall_of (map card_written.wall_numbers checker.walls.now)) ≡ mix_passes checker.walls.now = ap mix_passes (built_back card_written.wall_numbers card_written.wall_of card_written.wall_faithful checker.walls.now) in
     subst P (sym (all_calls card_written.card_numbers card_written.card_of card_written.card_faithful mix_pairs checker (mix_passes (map card_written.wall_of (map card_written.wall_numbers checker.walls.now))) walls lines)) x

@@ -1,7 +1,7 @@
 -- How long the first lines of an output are.
 use Rattle.std.proofs.Common.{◌≡◌, ℕ, zero, suc, ◌+◌, ◌-◌, ◌<◌, ◌≤◌, Bool, true, false, cond, eqb, List, [], ◌∷◌, length, get_or, drop, refl, ap, ◌∙◌, arith, ne_eqb}
 use Rattle.std.proofs.lemmas.List.{drop_more}
-use Rattle.play.specs.Reports.{lines_length}
+use Rattle.printing.specs.Outputs.{lines_length}
 
 -- of a byte that is read with lines left
 pub byte_newline : (n b : ℕ) (bs : List ℕ) → b ≡ 10 → lines_length (suc n) (b ∷ bs) ≡ suc (lines_length n bs)

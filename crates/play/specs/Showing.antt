@@ -4,7 +4,6 @@ use Rattle.printing.specs.Outputs.{written}
 use Rattle.play.specs.declared.fault.PlayFault.{PlayFault}
 use Rattle.play.specs.Faults.{told_play, fault_line}
 use Rattle.play.specs.Levels.{Played}
-use Rattle.play.specs.Reports.{printed_length}
 
 -- the line of a fault has room in 32 bytes
 abbrev pub FaultFits : Result ℕ PlayFault → Type 0
@@ -16,9 +15,8 @@ abbrev pub FaultShown : Result ℕ PlayFault → List ℕ → ℕ → List ℕ �
 FaultShown (Ok n) line end after = (end ≡ 0) × (after ≡ line)
 FaultShown (Err fault) line end after = (end ≡ length (fault_line fault)) × (after ≡ written line 0 (fault_line fault))
 
--- the level is played, and of the output so much is shown as was written
+-- the level is played, and the output is shown up to where its lines end
 pub record Shown (bytes out line : List ℕ) (r : ℕ × ℕ) (after fault : List ℕ) : Type 0 where
   pub result : Result ℕ PlayFault
-  pub played : Played bytes out (told_play result) after
-  pub shown : r.0 ≡ printed_length result after
+  pub played : Played bytes out (told_play result) r.0 after
   pub told : FaultShown result line r.1 fault

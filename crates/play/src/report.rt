@@ -1,6 +1,7 @@
 // How much of an output is to be shown.
 ghost use Rattle.std.specs.Prelude.{◌≡◌, ◌≤◌, length};
-ghost use Rattle.play.specs.Reports.{lines_length, printed_length};
+ghost use Rattle.printing.specs.Outputs.{lines_length};
+ghost use Rattle.play.specs.Reports.{printed_length};
 
 use crate::fault::PlayFault;
 

@@ -17,14 +17,14 @@ use Rattle.play_theory.specs.Answering.{Pairs, itself, set_call, Answered}
 use Rattle.play_theory.proofs.Steps.{asked_set, turn_set, line_set}
 
 -- a history has reached the roadmap, and what answers the rest from there answers all
-pub record Going {E : Type 0} (dist : E → E → ℕ) (AllAnswered : Outcome ℕ → List ℕ → Type 0) (rest : List (Call E (Pairs E))) (road : Road E) (l : Lent) (at lines : ℕ) (out : List ℕ) : Type 0 where
+pub record Going {E : Type 0} (dist : E → E → ℕ) (AllAnswered : Outcome ℕ → ℕ → List ℕ → Type 0) (rest : List (Call E (Pairs E))) (road : Road E) (l : Lent) (at lines : ℕ) (out : List ℕ) : Type 0 where
   pub history : History E
   pub reached : Reached dist history road
-  pub back : (o : Outcome ℕ) (after : List ℕ) → Answered dist history rest l at lines out o after → AllAnswered o after
+  pub back : (o : Outcome ℕ) (end : ℕ) (after : List ℕ) → Answered dist history rest l at lines out o end after → AllAnswered o end after
 
-module _ {E C : Type 0} (dist : E → E → ℕ) (top : ℕ) (laws : MetricLaws top dist) (passes : C → E → E → Bool) (even : Symmetric passes) (AllAnswered : Outcome ℕ → List ℕ → Type 0) where
-  pub going_done : (road : Road E) (l : Lent) (at lines : ℕ) (out : List ℕ) → Going dist AllAnswered [] road l at lines out → AllAnswered (gives at) out
-  going_done road l at lines out g = g.back (gives at) out (refl, refl)
+module _ {E C : Type 0} (dist : E → E → ℕ) (top : ℕ) (laws : MetricLaws top dist) (passes : C → E → E → Bool) (even : Symmetric passes) (AllAnswered : Outcome ℕ → ℕ → List ℕ → Type 0) where
+  pub going_done : (road : Road E) (l : Lent) (at lines : ℕ) (out : List ℕ) → Going dist AllAnswered [] road l at lines out → AllAnswered (gives at) at out
+  going_done road l at lines out g = g.back (gives at) at out (refl, refl, refl)
 
   module _ (c : Call E C) (cs : List (Call E (Pairs E))) (road after : Road E) (l m : Lent) (at lines : ℕ) (out : List ℕ) (a : Said E) (d : Does dist passes road c l a m after) where
     bytes : List ℕ
@@ -41,9 +41,9 @@ module _ {E C : Type 0} (dist : E → E → ℕ) (top : ℕ) (laws : MetricLaws 
         record {
           history = then_asks h (asked itself (set_call passes c) l);
           reached = subst P (asked_set dist passes c l) (next dist top laws h road after (asked passes c l) (reply a) d.lists (fair dist passes even top laws c l) g.reached d.tells);
-          back = λ o end x. g.back o end (a, m, goes g, rw (line_set dist passes c (reply a) m, f) x);
+          back = λ o end after' x. g.back o end after' (a, m, goes g, rw (line_set dist passes c (reply a) m, f) x);
         }
 
     -- it does not
-    pub going_full : fits_at (length out) at (answer_line c (reply a) m) ≡ false → Going dist AllAnswered (set_call passes c ∷ cs) road l at lines out → AllAnswered (refuses 11 (lines ∷ [])) out
-    going_full f g = g.back (refuses 11 (lines ∷ [])) out (a, m, goes g, rw (line_set dist passes c (reply a) m, f) (refl, refl))
+    pub going_full : fits_at (length out) at (answer_line c (reply a) m) ≡ false → Going dist AllAnswered (set_call passes c ∷ cs) road l at lines out → AllAnswered (refuses 11 (lines ∷ [])) at out
+    going_full f g = g.back (refuses 11 (lines ∷ [])) at out (a, m, goes g, rw (line_set dist passes c (reply a) m, f) (refl, refl, refl))

@@ -2,3 +2,4 @@ pub mod Unique
 pub mod Steps
 pub mod Going
 pub mod Counting
+pub mod Ending

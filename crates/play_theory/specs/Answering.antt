@@ -29,11 +29,12 @@ set_call passes (call.Route a b places) = call.Route a b places
 module _ {E : Type 0} (dist : E → E → ℕ) where
   -- Calls after a history, with lists that hold l, into an output of which so many bytes and so many whole lines are written.
   -- Each call is answered and leaves its list as the law over histories says, and its line is written behind the others. The
-  -- first line that does not fit ends it, by refusal 11 with how many whole lines are written, and is not begun.
-  abbrev pub Answered : History E → List (Call E (Pairs E)) → Lent → ℕ → ℕ → List ℕ → Outcome ℕ → List ℕ → Type 0
-  Answered h [] l at lines out o after = (o ≡ gives at) × (after ≡ out)
-  Answered h (c ∷ cs) l at lines out o after =
+  -- first line that does not fit ends it, by refusal 11 with how many whole lines are written, and is not begun. The bytes
+  -- before `end` are then the lines.
+  abbrev pub Answered : History E → List (Call E (Pairs E)) → Lent → ℕ → ℕ → List ℕ → Outcome ℕ → ℕ → List ℕ → Type 0
+  Answered h [] l at lines out o end after = (o ≡ gives at) × (end ≡ at) × (after ≡ out)
+  Answered h (c ∷ cs) l at lines out o end after =
       (a : Said E) × (m : Lent) × Turn dist itself h c l a m
       × MatchBool (fits_at (length out) at (answer_line c (reply a) m))
-      (Answered (then_asks h (asked itself c l)) cs m (at + length (answer_line c (reply a) m)) (lines + 1) (written out at (answer_line c (reply a) m)) o after)
-      ((o ≡ refuses 11 (lines ∷ [])) × (after ≡ out))
+      (Answered (then_asks h (asked itself c l)) cs m (at + length (answer_line c (reply a) m)) (lines + 1) (written out at (answer_line c (reply a) m)) o end after)
+      ((o ≡ refuses 11 (lines ∷ [])) × (end ≡ at) × (after ≡ out))

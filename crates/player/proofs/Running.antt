@@ -8,9 +8,11 @@ use Rattle.index.specs.Outcomes.{Outcome, gives, refuses}
 use Rattle.roadmap.specs.Roads.{Road}
 use Rattle.history.specs.declared.Call.{Call}
 use Rattle.history.specs.Turns.{Lent, reply}
-use Rattle.printing.specs.Outputs.{written}
+use Rattle.history_theory.specs.History.{History}
+use Rattle.printing.specs.Outputs.{written, lines_length}
 use Rattle.answers.specs.AnswerLines.{answer_line}
-use Rattle.play_theory.specs.Answering.{Pairs, set_call}
+use Rattle.play_theory.specs.Answering.{Pairs, set_call, Answered}
+use Rattle.play_theory.proofs.Ending.{ends_so}
 use Rattle.play_theory.proofs.Going.{Going, going_done, going_more, going_full}
 use Rattle.lines.specs.declared.calls.CallLine.{CallLine}
 use Rattle.player.specs.declared.calls.OutputFull.{OutputFull}
@@ -38,7 +40,7 @@ pub kept_end : (r : Option ℕ) (full : OutputFull) (old_len len end : ℕ) → 
 kept_end (Some n) full old_len len end e h = cc
 kept_end None full old_len len end e h = cc
 
-module _ {E C : Type 0} (dist : E → E → ℕ) (top : ℕ) (laws : MetricLaws top dist) (passes : C → E → E → Bool) (even : Symmetric passes) (checker : C) (AllAnswered : Outcome ℕ → List ℕ → Type 0) where
+module _ {E C : Type 0} (dist : E → E → ℕ) (top : ℕ) (laws : MetricLaws top dist) (passes : C → E → E → Bool) (even : Symmetric passes) (checker : C) (AllAnswered : Outcome ℕ → ℕ → List ℕ → Type 0) where
   abbrev calls_of : List (CallLine E) → List (Call E (Pairs E))
   calls_of lines = map (λ line. set_call passes (line_call line checker)) lines
 
@@ -64,21 +66,27 @@ module _ {E C : Type 0} (dist : E → E → ℕ) (top : ℕ) (laws : MetricLaws 
     pub step_more : (r : Option ℕ) (len end : ℕ) (full : OutputFull) → len ≡ at → ok_or r full ≡ Ok end → AnswersOne dist passes road c l out len r m out' after → Going dist AllAnswered (calls_of (drop i lines)) road l at i out → Going dist AllAnswered (calls_of (drop (i + 1) lines)) after m end (i + 1) out'
     step_more r len end full e h y = fits end (placed r (Some end) len e (was_some r full end h) y)
 
-    no_room : AnswersOne dist passes road c l out at None m out' after → Going dist AllAnswered (calls_of (drop i lines)) road l at i out → AllAnswered (refuses 11 (i ∷ [])) out'
+    no_room : AnswersOne dist passes road c l out at None m out' after → Going dist AllAnswered (calls_of (drop i lines)) road l at i out → AllAnswered (refuses 11 (i ∷ [])) at out'
     no_room x g =
         let f = did_not_fit _ _ x.puts in
         let P : List (Call E (Pairs E)) → Type 0 = λ cs. Going dist AllAnswered cs road l at i out in
-        let Q : List ℕ → Type 0 = AllAnswered (refuses 11 (i ∷ [])) in
+        let Q : List ℕ → Type 0 = AllAnswered (refuses 11 (i ∷ [])) at in
         let left : out' ≡ out = x.leaves ∙ ap (λ b. cond b (written out at (answer_line c (reply x.answer) m)) out) f in
         subst Q (sym left) (going_full dist top laws passes even AllAnswered c (calls_of (drop (i + 1) lines)) road after l m at i out x.answer x.does f (subst P first g))
 
-    pub step_full : (r : Option ℕ) (len : ℕ) (full told : OutputFull) → len ≡ at → ok_or r full ≡ Err told → full.0 ≡ i → AnswersOne dist passes road c l out len r m out' after → Going dist AllAnswered (calls_of (drop i lines)) road l at i out → AllAnswered (refuses 11 (told.0 ∷ [])) out'
+    pub step_full : (r : Option ℕ) (len : ℕ) (full told : OutputFull) → len ≡ at → ok_or r full ≡ Err told → full.0 ≡ i → AnswersOne dist passes road c l out len r m out' after → Going dist AllAnswered (calls_of (drop i lines)) road l at i out → AllAnswered (refuses 11 (told.0 ∷ [])) at out'
     step_full r len full told e h n y g =
         let w = was_none r full told h in
-        let P : ℕ → Type 0 = λ k. AllAnswered (refuses 11 (k ∷ [])) out' in
+        let P : ℕ → Type 0 = λ k. AllAnswered (refuses 11 (k ∷ [])) at out' in
         subst P (sym (ap (λ o. o.0) w.1 ∙ n)) (no_room (placed r None len e w.0 y) g)
 
-  pub step_done : (lines : List (CallLine E)) (i at : ℕ) (road : Road E) (l : Lent) (out : List ℕ) → length lines ≤ i → Going dist AllAnswered (calls_of (drop i lines)) road l at i out → AllAnswered (gives at) out
+  pub step_done : (lines : List (CallLine E)) (i at : ℕ) (road : Road E) (l : Lent) (out : List ℕ) → length lines ≤ i → Going dist AllAnswered (calls_of (drop i lines)) road l at i out → AllAnswered (gives at) at out
   step_done lines i at road l out h g =
       let P : List (CallLine E) → Type 0 = λ ls. Going dist AllAnswered (calls_of ls) road l at i out in
       going_done dist top laws passes even AllAnswered road l at i out (subst P (drop_all i lines h) g)
+
+-- a play that ends early, by the lines in the output
+pub counted_full : {E : Type 0} (dist : E → E → ℕ) (h : History E) (cs : List (Call E (Pairs E))) (l : Lent) (out : List ℕ) (n end : ℕ) (after : List ℕ) → Answered dist h cs l 0 0 out (refuses 11 (n ∷ [])) end after → Answered dist h cs l 0 0 out (refuses 11 (n ∷ [])) (lines_length n after) after
+counted_full dist h cs l out n end after x =
+    let P : ℕ → Type 0 = λ k. Answered dist h cs l 0 0 out (refuses 11 (n ∷ [])) k after in
+    subst P (ends_so dist h cs l out (refuses 11 (n ∷ [])) end after x) x

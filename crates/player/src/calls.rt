@@ -5,7 +5,7 @@ ghost use Rattle.roadmap.specs.Roadmaps.{road_of};
 ghost use Rattle.history_theory.specs.History.{start};
 ghost use Rattle.history.specs.Turns.{lent};
 ghost use Rattle.play_theory.specs.Answering.{set_call, Answered};
-ghost use Rattle.player.specs.Calls.{line_call, blank_lists, told_calls, AnswersOne};
+ghost use Rattle.player.specs.Calls.{line_call, blank_lists, told_calls, calls_end, AnswersOne};
 
 use answers::put_answer;
 use checker::Checker;
@@ -64,7 +64,7 @@ pub fn play_on<I: Index + Drop, C: Checker<I::Element> + Copy>(
 ) -> Result<usize, OutputFull>
     requires fresh { I.Index.meaning index ≡ fresh 64 }
     requires neighbours { (1 ≤ k) × (k ≤ 8) }
-    ensures { Answered I.Element.Metric.dist (start k 64) (map (λ line. set_call C.Checker.passes (line_call line checker)) lines.now) blank_lists 0 0 out.old (told_calls result) out.new }
+    ensures { Answered I.Element.Metric.dist (start k 64) (map (λ line. set_call C.Checker.passes (line_call line checker)) lines.now) blank_lists 0 0 out.old (told_calls result) (calls_end result out.new) out.new }
 {
     let mut links = [Links::unlinked(0); 64];
     let Ok(mut road) = Roadmap::new(index, k, &mut links) else {

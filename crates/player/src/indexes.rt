@@ -2,7 +2,7 @@
 ghost use Rattle.std.specs.Prelude.{◌≡◌, map, length};
 ghost use Rattle.history_theory.specs.History.{start};
 ghost use Rattle.play_theory.specs.Answering.{set_call, Answered};
-ghost use Rattle.player.specs.Calls.{line_call, blank_lists, told_calls};
+ghost use Rattle.player.specs.Calls.{line_call, blank_lists, told_calls, calls_end};
 
 use crate::calls::{OutputFull, play_on};
 use checker::Checker;
@@ -22,7 +22,7 @@ pub fn play_with<E: Metric, C: Checker<E> + Copy>(
     out: &mut [u8],
 ) -> Result<usize, OutputFull>
     requires { (length plain.old ≡ 64) × (length tree.old ≡ 64) }
-    ensures { Answered E.Metric.dist (start header.now.k 64) (map (λ line. set_call C.Checker.passes (line_call line checker)) lines.now) blank_lists 0 0 out.old (told_calls result) out.new }
+    ensures { Answered E.Metric.dist (start header.now.k 64) (map (λ line. set_call C.Checker.passes (line_call line checker)) lines.now) blank_lists 0 0 out.old (told_calls result) (calls_end result out.new) out.new }
 {
     match header.tree {
         Some(settings) => play_on(Gnat::new(tree, settings), header.k, checker, lines, out),

@@ -1,5 +1,5 @@
 -- What an output holds after a line was written into it.
-use Rattle.std.specs.Prelude.{ℕ, ◌+◌, Bool, cond, List, ◌∷◌, ◌++◌, map, length, take, drop, Some, None, decimal, Option, nat_le}
+use Rattle.std.specs.Prelude.{ℕ, zero, suc, ◌+◌, Bool, cond, List, [], ◌∷◌, ◌++◌, map, length, take, drop, Some, None, decimal, Option, ◌==◌, nat_le}
 use Rattle.level_theory.specs.Texts.{line_of}
 
 -- bytes in place of what stood from a place on
@@ -21,3 +21,9 @@ put_outcome places at bytes = cond (fits_at places at bytes) (Some (at + length 
 -- a line that does not fit leaves all as it was
 abbrev pub put_leaves : List ℕ → ℕ → List ℕ → List ℕ
 put_leaves out at bytes = cond (fits_at (length out) at bytes) (written out at bytes) out
+
+-- how long the first lines are, each with its byte 10
+abbrev pub lines_length : ℕ → List ℕ → ℕ
+lines_length zero bytes = 0
+lines_length (suc n) [] = 0
+lines_length (suc n) (b ∷ bs) = suc (cond (b == 10) (lines_length n bs) (lines_length (suc n) bs))

@@ -1,10 +1,6 @@
 -- The steps of loops that take numbers, and that copy them. Assumes nothing.
-use Rattle.std.proofs.Common.{◌≡◌, ℕ, zero, suc, ◌+◌, ◌-◌, ◌*◌, ◌<◌, ◌≤◌, ◌≢◌, true, false, eqb, subst, add-one, List, [], ◌∷◌, ◌++◌, length, get_or, take, set, sym, refl, ap, ◌∙◌, append_assoc, arith}
+use Rattle.std.proofs.Common.{◌≡◌, ℕ, zero, suc, ◌+◌, ◌-◌, ◌*◌, ◌<◌, ◌≤◌, add-one, List, [], ◌∷◌, ◌++◌, length, get_or, take, set, sym, refl, ap, ◌∙◌, append_assoc, arith}
 use Rattle.std.proofs.lemmas.List.{take_more, take_more_set, take_all, flat_map_more}
-use Rattle.std.proofs.lemmas.Bool.{eqb-true, eqb-false}
-use denote.Param.Members.{Mut}
-use Rattle.std.specs.Fn.{Called}
-use Rattle.std.specs.Array.{IsFromFnResultFrom}
 use Rattle.std.specs.List.{flat_map}
 use Rattle.walls.specs.declared.arc.Arc.{Arc}
 use Rattle.written.specs.Arms.{arc_numbers}
@@ -66,15 +62,3 @@ arcs_all arcs ns n long all each =
     ap (flat_map arc_numbers) (sym (take_all n arcs (omega arith)))
     ∙ arcs_front arcs ns n n long all each (omega arith)
     ∙ take_all (2 * n) ns (omega arith)
-
--- what an array is made of, by a closure that stays as it is
-module _ {F B : Type 0} (g : Mut F (ℕ × Unit {0}) B) (f : F) (made : ℕ → B) (calls : (i : ℕ) (y : B) (q : F) → Called g f (i, tt) y q → (q ≡ f) × (y ≡ made i)) where
-  pub from_calls : (ys : List B) (n i : ℕ) (p : F) → p ≡ f → IsFromFnResultFrom g p ys i n → (k : ℕ) (e : B) → i ≤ k → k < i + n → get_or ys k e ≡ made k
-  from_calls ys zero i p same each k e l h = absurd (omega arith)
-  from_calls ys (suc n) i p same each k e l h =
-      let call : Called g f (i, tt) each.1 each.0 = subst (λ x. Called g x (i, tt) each.1 each.0) same each.3 in
-      let first = calls i each.1 each.0 call in
-      elim (eqb k i) as (λ t. eqb k i ≡ t → get_or ys k e ≡ made k) [
-        | true ↦ λ t. let at : k ≡ i = eqb-true k i t in subst (λ x. get_or ys x e ≡ made x) (sym at) (each.2.1 e ∙ first.1)
-        | false ↦ λ t. let other : k ≢ i = eqb-false k i t in from_calls ys n (i + 1) each.0 first.0 each.4 k e (omega arith) (omega arith)
-      ] refl

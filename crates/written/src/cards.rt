@@ -60,8 +60,4 @@ impl Written for Card {
             slots: bytes(numbers),
         })
     }
-
-    fn blank_wall() -> CardWall {
-        CardWall { slots: [0; 8] }
-    }
 }

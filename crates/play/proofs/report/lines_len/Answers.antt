@@ -1,6 +1,6 @@
 use Rattle.std.proofs.Common.{◌≡◌, ℕ, ◌+◌, drop, sym, ap, ◌∙◌, subst, arith}
 use Rattle.std.proofs.lemmas.List.{drop_all}
-use Rattle.play.specs.Reports.{lines_length}
+use Rattle.printing.specs.Outputs.{lines_length}
 use Rattle.play.proofs.Counting.{step_newline, step_other, lines_none}
 use Rattle.play.proofs.report.lines_len.Goals as goal
 use Rattle.play.proofs.report.lines_len.Goals.{then-byte-eq10, else-byte-eq10}

@@ -1,5 +1,5 @@
 use Rattle.std.proofs.Common.{◌≡◌, ◌+◌, drop}
-use Rattle.play.specs.Reports.{lines_length}
+use Rattle.printing.specs.Outputs.{lines_length}
 use Rattle.play.proofs.report.lines_len.Given as goal
 
 abbrev pub invariant-loop-i : goal.invariant-loop-i

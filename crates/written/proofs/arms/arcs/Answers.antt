@@ -1,5 +1,6 @@
 use Rattle.std.proofs.Common.{refl, arith, rules}
-use Rattle.written.proofs.Runs.{arc_at, arcs_all, from_calls}
+use Rattle.turning.proofs.Made.{from_calls}
+use Rattle.written.proofs.Runs.{arc_at, arcs_all}
 use Rattle.written.proofs.arms.arcs.Goals as goal
 
 pub returns : goal.returns

@@ -22,7 +22,7 @@ returns-in_err-count-in-WallCount-Letters g c =
 pub returns-in_err-wall-in-Walls-Digits : goal.returns-in_err-wall-in-Walls-Digits
 returns-in_err-wall-in-Walls-Digits g c =
     let p = err_from_is_err_and c.from_residual-in_err-wall-in-Walls-Digits.result c.from_residual-in_err-wall-in-Walls-Digits.ensures.1 in
-    λ line. rw (p.1, p.2) (wall_lacks line (level_read c.args.self.now) (words_left c.args.words.now) c.args.words.now.place c.requires.place (stage_shown c.args.self.now.stage) c.in-Walls-Digits.left (left_wall c.args.self.now c.in-Walls-Digits.left c.in-Walls-Digits.is-0).0 (ap stage_shown c.in-Walls-Digits.is-0) c.in_err-wall-in-Walls-Digits.field-0.0.0 c.in_err-wall-in-Walls-Digits.ensures)
+    λ line. rw (p.1, p.2) (wall_lacks line (level_read c.args.self.now) (words_left c.args.words.now) c.args.words.now.place c.requires.place (stage_shown c.args.self.now.stage) c.in-Walls-Digits.left (left_wall c.args.self.now c.in-Walls-Digits.left c.in-Walls-Digits.is-0).0 (ap stage_shown c.in-Walls-Digits.is-0) c.in_err-wall-in-Walls-Digits.field-0.0.0 c.in_err-wall-in-Walls-Digits.ensures.taken)
 
 pub returns-in_err-count-in-CallCount-Letters : goal.returns-in_err-count-in-CallCount-Letters
 returns-in_err-count-in-CallCount-Letters g c =
@@ -32,7 +32,7 @@ returns-in_err-count-in-CallCount-Letters g c =
 pub returns-in_err-call-in-Calls-Letters : goal.returns-in_err-call-in-Calls-Letters
 returns-in_err-call-in-Calls-Letters g c =
     let p = err_from_is_err_and c.from_residual-in_err-call-in-Calls-Letters.result c.from_residual-in_err-call-in-Calls-Letters.ensures.1 in
-    λ line. rw (p.1, p.2) (call_lacks line (level_read c.args.self.now) (words_left c.args.words.now) c.args.words.now.place c.requires.place (stage_shown c.args.self.now.stage) c.in-Calls-Letters.left (left_call c.args.self.now c.in-Calls-Letters.left c.in-Calls-Letters.is-0).0 (ap stage_shown c.in-Calls-Letters.is-0) c.in_err-call-in-Calls-Letters.field-0.0.0 (c.in_err-call-in-Calls-Letters.ensures line))
+    λ line. rw (p.1, p.2) (call_lacks line (level_read c.args.self.now) (words_left c.args.words.now) c.args.words.now.place c.requires.place (stage_shown c.args.self.now.stage) c.in-Calls-Letters.left (left_call c.args.self.now c.in-Calls-Letters.left c.in-Calls-Letters.is-0).0 (ap stage_shown c.in-Calls-Letters.is-0) c.in_err-call-in-Calls-Letters.field-0.0.0 (c.in_err-call-in-Calls-Letters.ensures.told line))
 
 pub push-requires : goal.push-requires
 push-requires g c = let s = left_wall c.args.self.now c.in-Walls-Digits.left c.in-Walls-Digits.is-0 in search (rules, s.1)
@@ -75,14 +75,14 @@ returns-in_ok-count-in-CallCount-Letters g c =
 pub returns-in_ok-wall-in-Walls-Digits : goal.returns-in_ok-wall-in-Walls-Digits
 returns-in_ok-wall-in-Walls-Digits g c =
     let s = left_wall c.args.self.now c.in-Walls-Digits.left c.in-Walls-Digits.is-0 in
-    λ line. wall_gives line (level_read c.args.self.now) (words_left c.args.words.now) c.args.words.now.place c.requires.place (stage_shown c.args.self.now.stage) c.in-Walls-Digits.left s.0 (ap stage_shown c.in-Walls-Digits.is-0) (g.K.Written.bounds c.in_ok-wall-in-Walls-Digits.wall) (stage_shown c.walls_to_come-self-in-Walls-Digits.result) (level_shown g.K.Written.kind g.K.Written.listed g.K.Written.bounds (walls_put c.args.self.now.level c.push.new.self)) c.in_ok-wall-in-Walls-Digits.ensures
+    λ line. wall_gives line (level_read c.args.self.now) (words_left c.args.words.now) c.args.words.now.place c.requires.place (stage_shown c.args.self.now.stage) c.in-Walls-Digits.left s.0 (ap stage_shown c.in-Walls-Digits.is-0) (g.K.Written.bounds c.in_ok-wall-in-Walls-Digits.wall) (stage_shown c.walls_to_come-self-in-Walls-Digits.result) (level_shown g.K.Written.kind g.K.Written.listed g.K.Written.bounds (walls_put c.args.self.now.level c.push.new.self)) c.in_ok-wall-in-Walls-Digits.ensures.taken
     (ap stage_shown c.walls_to_come-self-in-Walls-Digits.ensures ∙ walls_shown (c.in-Walls-Digits.left - 1))
     (ap (level_shown g.K.Written.kind g.K.Written.listed g.K.Written.bounds) (wall_put c.args.self.now.level c.in_ok-wall-in-Walls-Digits.wall c.push.new.self c.push.ensures.items) ∙ shown_wall g.K.Written.kind g.K.Written.listed g.K.Written.bounds c.args.self.now.level c.in_ok-wall-in-Walls-Digits.wall)
 
 pub returns-in_ok-call-in-Calls-Letters : goal.returns-in_ok-call-in-Calls-Letters
 returns-in_ok-call-in-Calls-Letters g c =
     let s = left_call c.args.self.now c.in-Calls-Letters.left c.in-Calls-Letters.is-0 in
-    λ line. call_gives line (level_read c.args.self.now) (words_left c.args.words.now) c.args.words.now.place c.requires.place (stage_shown c.args.self.now.stage) c.in-Calls-Letters.left s.0 (ap stage_shown c.in-Calls-Letters.is-0) (call_shown g.K.Written.listed c.in_ok-call-in-Calls-Letters.call) (stage_shown c.calls_to_come-self-in-Calls-Letters.result) (level_shown g.K.Written.kind g.K.Written.listed g.K.Written.bounds (calls_put c.args.self.now.level c.push-in-Calls-Letters.new.self)) (c.in_ok-call-in-Calls-Letters.ensures line)
+    λ line. call_gives line (level_read c.args.self.now) (words_left c.args.words.now) c.args.words.now.place c.requires.place (stage_shown c.args.self.now.stage) c.in-Calls-Letters.left s.0 (ap stage_shown c.in-Calls-Letters.is-0) (call_shown g.K.Written.listed c.in_ok-call-in-Calls-Letters.call) (stage_shown c.calls_to_come-self-in-Calls-Letters.result) (level_shown g.K.Written.kind g.K.Written.listed g.K.Written.bounds (calls_put c.args.self.now.level c.push-in-Calls-Letters.new.self)) (c.in_ok-call-in-Calls-Letters.ensures.told line)
     (ap stage_shown c.calls_to_come-self-in-Calls-Letters.ensures ∙ calls_shown (c.in-Calls-Letters.left - 1))
     (ap (level_shown g.K.Written.kind g.K.Written.listed g.K.Written.bounds) (call_put c.args.self.now.level c.in_ok-call-in-Calls-Letters.call c.push-in-Calls-Letters.new.self c.push-in-Calls-Letters.ensures.items) ∙ shown_call g.K.Written.kind g.K.Written.listed g.K.Written.bounds c.args.self.now.level c.in_ok-call-in-Calls-Letters.call)
 
