@@ -1,5 +1,5 @@
 -- Settled costs are the least: what they say of the chains to the goal. Assumes nothing.
-use Rattle.std.proofs.Common.{◌≡◌, ℕ, zero, suc, ◌+◌, ◌*◌, ◌<◌, ◌≤◌, Bool, true, false, cond, ltb, ◌⊎◌, List, [], ◌∷◌, length, get_or, sym, refl, ap, ◌∙◌, subst, inl, inr, arith, le-ltb, lt-ltb}
+use Rattle.std.proofs.Common.{◌≡◌, ℕ, zero, suc, ◌+◌, ◌*◌, ◌<◌, ◌≤◌, Bool, true, false, cond, ltb, ◌⊎◌, List, [], ◌∷◌, length, get_or, set, sym, refl, ap, ◌∙◌, subst, inl, inr, arith, le-ltb, lt-ltb}
 use Rattle.std.specs.List.{AllByRecursion}
 use Rattle.std.proofs.lemmas.List.{get_or_past}
 use Rattle.std.proofs.lemmas.Bool.{cases_lt, cases_order}
@@ -35,7 +35,7 @@ unfolding below
 below_more b c [] l = omega arith
 below_more b c (x ∷ xs) l = omega (arith, flag_less x b c l, below_more b c xs l)
 
-below_one : (c i : ℕ) (xs : List ℕ) → i < length xs → get_or xs i none < c → below (get_or xs i none) xs < below c xs
+pub below_one : (c i : ℕ) (xs : List ℕ) → i < length xs → get_or xs i none < c → below (get_or xs i none) xs < below c xs
 unfolding below
 below_one c i [] l m = absurd (omega arith)
 below_one c zero (x ∷ xs) l m = omega (arith, flag_in x c m, flag_out x x (omega arith), below_more x c xs (omega arith))
@@ -55,11 +55,25 @@ unfolding below
 below_all c [] = omega arith
 below_all c (x ∷ xs) = omega (arith, flag_one x c, below_all c xs)
 
-below_few : (i : ℕ) (xs : List ℕ) → i < length xs → below (get_or xs i none) xs < length xs
+pub below_few : (i : ℕ) (xs : List ℕ) → i < length xs → below (get_or xs i none) xs < length xs
 unfolding below
 below_few i [] l = absurd (omega arith)
 below_few zero (x ∷ xs) l = omega (arith, flag_out x x (omega arith), below_all x xs)
 below_few (suc i) (x ∷ xs) l = omega (arith, flag_one x (get_or xs i none), below_few i xs (omega arith))
+
+flag_more : (x y c : ℕ) → y ≤ x → flag x c ≤ flag y c
+flag_more x y c l = go (cases_lt x c)
+  where
+    go : (x < c) ⊎ (c ≤ x) → flag x c ≤ flag y c
+    go (inl m) = omega (arith, flag_in x c m, flag_in y c (omega arith))
+    go (inr m) = omega (arith, flag_out x c m)
+
+-- where a cost falls, no fewer are below c
+pub below_set : (c : ℕ) (xs : List ℕ) (i v : ℕ) → i < length xs → v ≤ get_or xs i none → below c xs ≤ below c (set xs i v)
+unfolding below
+below_set c [] i v l m = absurd (omega arith)
+below_set c (x ∷ xs) zero v l m = omega (arith, flag_more x v c m)
+below_set c (x ∷ xs) (suc i) v l m = omega (arith, below_set c xs i v (omega arith) m)
 
 -- one more number in front of a chain
 pub longer : (Stands : ℕ → Type 0) (Step : ℕ → ℕ → ℕ → Type 0) (i j d b : ℕ) (ns : List ℕ) (l : ℕ) → Step i j d → Joins Stands Step j b ns l → Joins Stands Step i b (i ∷ ns) (d + l)

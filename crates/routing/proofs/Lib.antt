@@ -1,3 +1,6 @@
-pub mod Lowering
-pub mod Walking
-pub mod Existing
+pub mod Winning
+pub mod Climbing
+pub mod Laying
+pub mod Offering
+pub mod Emptying
+pub mod Following
