@@ -1,5 +1,5 @@
 -- Finding records, and writing their edges by place. Assumes nothing.
-use Rattle.std.proofs.Common.{◌≡◌, ℕ, zero, suc, ◌+◌, ◌<◌, ◌≤◌, Bool, true, false, cond, eqb, ◌⊎◌, List, [], ◌∷◌, ◌++◌, map, length, get_or, take, set, filter, Less, Equal, Greater, Ok, Err, Result, sym, refl, ap, ◌∙◌, subst, inl, inr, arith}
+use Rattle.std.proofs.Common.{◌≡◌, ℕ, zero, suc, ◌+◌, ◌<◌, ◌≤◌, Bool, true, false, cond, eqb, ◌⊎◌, List, [], ◌∷◌, ◌++◌, map, length, get_or, take, drop, ◌-◌, set, filter, Less, Equal, Greater, Ok, Err, Result, sym, refl, ap, ◌∙◌, subst, inl, inr, arith}
 use Rattle.std.specs.List.{flat_map, AllByRecursion}
 use Rattle.std.specs.List.Sorted.{IsBinarySearchResult}
 use Rattle.std.specs.Ordering.{nat_cmp, is_lt}
@@ -7,7 +7,7 @@ use Rattle.std.specs.Result.{MatchResult, result_ok}
 use Rattle.std.proofs.lemmas.Cmp.{ranked, nat_cmp_total}
 use Rattle.std.proofs.lemmas.List.Sorted.{searchable_from_sorted}
 use Rattle.std.proofs.lemmas.Bool.Decides.{nat_tests}
-use Rattle.std.proofs.lemmas.List.{length-map, get_or-map, take_more_set, map_push, append_assoc, append-nil, take_more}
+use Rattle.std.proofs.lemmas.List.{length-map, get_or-map, take_more_set, drop-set-lt, drop-drop, map_push, append_assoc, append-nil, take_more}
 use Rattle.std.proofs.lemmas.List.Elements.{filter_more}
 use Rattle.std.proofs.ByRecursion.{All-push, All-get_or}
 use Rattle.std.proofs.lemmas.Bool.{cases_lt, ne_eqb, eq-eqb, or_from, or_right, or_left}
@@ -31,10 +31,17 @@ has_at [] n i l e = absurd (omega arith)
 has_at (x ∷ xs) n zero l e = or_left (eqb x n) (has xs n) (eq-eqb x n e)
 has_at (x ∷ xs) n (suc i) l e = or_right (eqb x n) (has xs n) (has_at xs n i (omega arith) e)
 
+-- lists that are alike from a place on are alike from a later one on
+pub drop_less : {X : Type 0} (i j : ℕ) (xs ys : List X) → i ≤ j → drop i xs ≡ drop i ys → drop j xs ≡ drop j ys
+drop_less i j xs ys l e =
+    let s : i + (j - i) ≡ j = omega arith in
+    ap (λ z. drop z xs) (sym s) ∙ (sym (drop-drop (j - i) i xs) ∙ (ap (drop (j - i)) e ∙ (drop-drop (j - i) i ys ∙ ap (λ z. drop z ys) s)))
+
 -- The first i elders of a record: those that stand have their edge, by place, behind the first `made`.
 pub record SoFar (links : List Links) (r : Links) (before : List Edge) (made : ℕ) (after : List Edge) (all i : ℕ) : Type 0 where
   pub low : made ≤ all
   pub few : all ≤ made + i
+  pub rest : drop all after ≡ drop all before
   pub inside : AllByRecursion (Inside (length links)) (take made before) → AllByRecursion (Inside (length links)) (take all after)
   pub named : map (renamed (number_at links)) (take all after) ≡ map (renamed (number_at links)) (take made before) ++ map (edge_to r.number) (filter (λ h. has (numbers links) h.number) (take i r.elders))
 
@@ -49,7 +56,7 @@ module _ (links : List Links) (r : Links) (before : List Edge) (made : ℕ) wher
         let more = filter_more (λ x. has (numbers links) x.number) r.elders i h l in
         let skip : cond (has (numbers links) (get_or r.elders i h).number) (get_or r.elders i h ∷ []) [] ≡ [] = ap (λ z. cond (has (numbers links) z.number) (z ∷ []) []) (sym is) ∙ ap (λ b. cond b (h ∷ []) []) e in
         let same : filter (λ x. has (numbers links) x.number) (take (i + 1) r.elders) ≡ filter (λ x. has (numbers links) x.number) (take i r.elders) = more ∙ (ap (λ z. filter (λ x. has (numbers links) x.number) (take i r.elders) ++ z) skip ∙ append-nil (filter (λ x. has (numbers links) x.number) (take i r.elders))) in
-        record { low = s.low; few = omega (arith, s.few); inside = s.inside; named = s.named ∙ ap (λ z. map (renamed (number_at links)) (take made before) ++ map (edge_to r.number) z) (sym same) }
+        record { low = s.low; few = omega (arith, s.few); rest = s.rest; inside = s.inside; named = s.named ∙ ap (λ z. map (renamed (number_at links)) (take made before) ++ map (edge_to r.number) z) (sym same) }
 
     -- an elder that stands
     pub so_far_more : (place at : ℕ) → all < length after → place < length links → at < length links → number_at links place ≡ h.number → number_at links at ≡ r.number → h.distance ≤ 1048576 → SoFar links r before made (set after all (edge place at h.distance)) (all + 1) (i + 1)
@@ -66,6 +73,7 @@ module _ (links : List Links) (r : Links) (before : List Edge) (made : ℕ) wher
         record {
           low = omega (arith, s.low);
           few = omega (arith, s.few);
+          rest = drop-set-lt (all + 1) after all e (omega arith) ∙ drop_less all (all + 1) after before (omega arith) s.rest;
           inside = λ a. subst P (sym front) (All-push (Inside (length links)) (take all after) e (s.inside a) (in_p, in_a, short));
           named = ap (map (renamed (number_at links))) front
               ∙ (map_push (renamed (number_at links)) (take all after) e
@@ -135,6 +143,9 @@ all_resolved links at edges n a b r =
 -- the record at a place is sound
 pub record_sound : (links : List Links) (at : ℕ) → at < length links → AllByRecursion Sound links → Sound (get_or links at (record { number = 0; count = 0; elders = [] }))
 record_sound links at l all = All-get_or Sound links at (record { number = 0; count = 0; elders = [] }) l all
+
+pub elder_less : (r : Links) (i : ℕ) → Sound r → i < length (elders r) → (get_or (elders r) i (record { number = 0; distance = 0 })).number < r.number
+elder_less r i s l = (All-get_or (λ h. (h.number < r.number) × (h.distance ≤ 1048576)) (elders r) i (record { number = 0; distance = 0 }) l s.elder).0
 
 pub elder_short : (r : Links) (i : ℕ) → Sound r → i < length (elders r) → (get_or (elders r) i (record { number = 0; distance = 0 })).distance ≤ 1048576
 elder_short r i s l = (All-get_or (λ h. (h.number < r.number) × (h.distance ≤ 1048576)) (elders r) i (record { number = 0; distance = 0 }) l s.elder).1

@@ -1,7 +1,7 @@
 // The edge records of a roadmap: one for each standing sample, by rising number.
 #![tactic(auto)]
 
-ghost use Rattle.std.specs.Prelude.{◌≡◌, ◌*◌, ◌<◌, ◌≤◌, map, length, replicate};
+ghost use Rattle.std.specs.Prelude.{◌≡◌, ◌*◌, ◌<◌, ◌≤◌, map, length, drop, replicate};
 ghost use Rattle.std.specs.List.{AllByRecursion};
 ghost use Rattle.chains.specs.Edges.{Rises};
 ghost use Rattle.links.specs.Records.{numbers, number_at, Good, Good-prop, Resolved, OneMore, Found};
@@ -61,17 +61,34 @@ impl<'a> Records<'a> {
         Records { all }
     }
 
+    // The place of an elder of the record at `at`. Numbers rise by one at least from place to place: an elder whose number
+    // is less by some gap is no farther before than that, and just there where no sample between has been dropped.
+    fn elder_place(&self, at: usize, number: u16) -> Option<usize>
+        requires at { at < length self.now.all.now }
+        requires elder { number < number_at self.now.all.now at }
+        ensures { Found number self.now.all.now result }
+    {
+        let gap = (self.all[at].number - number) as usize;
+        let first = at.saturating_sub(gap);
+        if first < at && self.all[first].number == number {
+            return Some(first);
+        }
+        Some(first + find(&self.all[first..at], number)?)
+    }
+
     // Writes the standing edges of one record behind the first `made`, by place. How many there are then.
     fn resolve_one(&self, at: usize, edges: &mut [Edge], made: usize) -> usize
         requires inside { (at < length self.now.all.now) × (made ≤ 8 * at) }
         requires room { 8 * length self.now.all.now ≤ length edges.old }
-        ensures { OneMore self.now.all.now at edges.old made edges.new result }
+        ensures low { made ≤ result }
+        ensures made { OneMore self.now.all.now at edges.old made edges.new result }
+        ensures rest { drop result edges.new ≡ drop result edges.old }
     {
         let record = self.all[at];
         // Counted as they are written: an elder that does not stand has no edge.
         let mut all = made;
         for elder in &record.elders[..record.count as usize] {
-            if let Some(place) = find(self.all, elder.number) {
+            if let Some(place) = self.elder_place(at, elder.number) {
                 edges[all] = Edge {
                     elder: place as u16,
                     younger: at as u16,
@@ -86,7 +103,8 @@ impl<'a> Records<'a> {
     // Writes the standing edges of all records, by place. How many they are.
     pub fn resolve(&self, edges: &mut [Edge]) -> usize
         requires { 8 * length self.now.all.now ≤ length edges.old }
-        ensures { Resolved self.now.all.now (length self.now.all.now) edges.new result }
+        ensures resolved { Resolved self.now.all.now (length self.now.all.now) edges.new result }
+        ensures rest { drop result edges.new ≡ drop result edges.old }
     {
         let mut made = 0;
         // By places, which are what the edges are written by.

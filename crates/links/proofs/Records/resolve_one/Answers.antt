@@ -3,7 +3,7 @@ use Rattle.std.proofs.lemmas.List.{get_or_default, get_or-take}
 use Rattle.hits.specs.declared.Hit.{Hit}
 use Rattle.links.specs.declared.Links.{Links}
 use Rattle.links.specs.Records.{elders}
-use Rattle.links.proofs.Resolving.{number_is, so_far_not, so_far_more, so_far_as, record_sound, elder_short}
+use Rattle.links.proofs.Resolving.{number_is, so_far_not, so_far_more, so_far_as, record_sound, elder_short, elder_less}
 use Rattle.links.proofs.Records.resolve_one.Goals as goal
 use Rattle.links.proofs.Records.resolve_one.Goals.{in-Some, in_default}
 
@@ -21,7 +21,7 @@ loop-elder-preserved c =
     let counts : i < r.count = omega (arith, c.loop-elder-test.true, length-take r.count r.elders) in
     let l : i < length r.elders = omega (arith, counts, s.places, s.count_bound) in
     let is : h ≡ get_or r.elders i h = get_or-take r.count r.elders i d counts ∙ get_or_default r.elders i d h l in
-    elim c.match-find.branch [
+    elim c.match-elder_place.branch [
       | in-Some w ↦
           let room : c.loop-elder.all < length c.loop-elder.edges = omega (arith, s.count_bound, counts, c.loop-elder.invariant.few, c.requires.inside.1, c.requires.inside.0, c.requires.room, c.loop-elder.auto.edges) in
           let f = w.in-Some.ensures in
@@ -31,3 +31,11 @@ loop-elder-preserved c =
           so_far_as links r old made _ _ _ _ (i + 1) w.edges-is w.all-is
           (so_far_not links r old made c.loop-elder.edges c.loop-elder.all i c.loop-elder.invariant l h is w.in_default.ensures)
     ]
+
+-- an elder's number is less
+pub elder_place-requires-clause-elder : goal.elder_place-requires-clause-elder
+elder_place-requires-clause-elder c =
+    let links = c.args.self.now.all.now in
+    let s = record_sound links c.args.at c.requires.inside.0 c.args.self.now.good.sound in
+    let r : Links = get_or links c.args.at (record { number = 0; count = 0; elders = [] }) in
+    omega (arith, elder_less r c.loop-elder.elder-index s c.loop-elder-test.true, number_is links c.args.at (record { number = 0; count = 0; elders = [] }) c.requires.inside.0)
