@@ -1,59 +1,109 @@
 // Islands and routes over the edge records of a roadmap, by place.
 #![tactic(auto)]
 
-ghost use Rattle.std.specs.Prelude.{◌≡◌, ◌*◌, ◌<◌, ◌≤◌, length};
+ghost use Rattle.std.specs.Prelude.{◌*◌, ◌<◌, ◌≤◌, length};
 ghost use Rattle.chains.specs.Chains.{Island};
 ghost use Rattle.chains.specs.Edges.{Linked};
 ghost use Rattle.index.specs.Outcomes.{told};
 ghost use Rattle.links.specs.Records.{number_at, edges_of};
 ghost use Rattle.graph.specs.Routes.{Standing, Routed};
-ghost use Rattle.graph.specs.Surveys.{Surveyed, Somewhere, FirstNumber};
 
 use chains::Edge;
 use index::refusal::Refusal;
 use links::{Records, rename};
-use routing::{NONE, first, settle, walk};
+use routing::{Neighbour, Neighbours, island_of, lay_out, settle, walk};
 
-// What stands where no edge is. 1,024 records have at most 8,192 edges: an array and how many of it, as nothing here may
-// allocate.
+// What stands where no edge is, and no neighbour: tables are arrays, since nothing here may allocate.
 const NO_EDGE: Edge = Edge {
     elder: 0,
     younger: 0,
     length: 0,
 };
 
-// Settles the costs of all chains to the record at `goal`. Returns how many edges there are.
-fn survey(records: &Records, goal: usize, edges: &mut [Edge], costs: &mut [u64]) -> usize
-    requires { (goal < length records.now.all.now) × ((length costs.old ≡ length records.now.all.now) × (8 * length records.now.all.now ≤ length edges.old)) }
-    ensures { Surveyed records.now.all.now goal edges.new result costs.new }
+const NO_NEIGHBOUR: Neighbour = Neighbour {
+    place: 0,
+    length: 0,
+};
+
+// A record has eight edges at most. Tables for the largest roadmap are cleared in a time in which a small one is answered
+// several times over, so there are three sizes of them.
+const SMALL: usize = 64;
+
+const MEDIUM: usize = 256;
+
+// The smallest number that a chain of edges from the record at `at` reaches, with tables for so many places.
+fn island_in<const PLACES: usize, const EDGES: usize>(records: &Records, at: usize) -> u16
+    requires at { at < length records.now.all.now }
+    requires places { (length records.now.all.now ≤ PLACES) × (PLACES ≤ 1024) }
+    requires edges { (8 * length records.now.all.now ≤ EDGES) × (EDGES ≤ 8192) }
+    ensures { Island (Standing records.now.all.now) (Linked (edges_of records.now.all.now)) (number_at records.now.all.now at) result }
 {
-    let made = records.resolve(edges);
-    settle(costs, &edges[0..made], goal);
-    made
+    let mut edges = [NO_EDGE; EDGES];
+    let mut parents = [0; PLACES];
+    let made = records.resolve(&mut edges);
+    let place = island_of(&edges[..made], &mut parents[..records.all.len()], at);
+    records.all[place].number
 }
 
-// The number of the first record that has a cost.
-fn first_number(records: &Records, costs: &[u64]) -> u16
-    requires { Somewhere records.now.all.now costs.now }
-    ensures { FirstNumber records.now.all.now costs.now result }
+// The chosen chain from the record at `start` to that at `goal`, with tables for so many places, for twice as many, and for
+// eight and sixteen to a place.
+fn route_in<
+    const PLACES: usize,
+    const TWICE: usize,
+    const EDGES: usize,
+    const NEIGHBOURS: usize,
+>(
+    records: &Records,
+    start: usize,
+    goal: usize,
+    list: &mut [u16],
+) -> Result<(u32, u16), Refusal>
+    requires ends { (start < length records.now.all.now) × (goal < length records.now.all.now) }
+    requires places { (length records.now.all.now ≤ PLACES) × (PLACES ≤ 1024) }
+    requires twice { (2 * length records.now.all.now ≤ TWICE) × (TWICE ≤ 2048) }
+    requires edges { (8 * length records.now.all.now ≤ EDGES) × (EDGES ≤ 8192) }
+    requires neighbours { (16 * length records.now.all.now ≤ NEIGHBOURS) × (NEIGHBOURS ≤ 16384) }
+    ensures { Routed (Standing records.now.all.now) (Linked (edges_of records.now.all.now)) (number_at records.now.all.now start) (number_at records.now.all.now goal) list.old (told result) list.new }
 {
-    records.all[first(costs)].number
+    let mut edges = [NO_EDGE; EDGES];
+    let mut all = [NO_NEIGHBOUR; NEIGHBOURS];
+    let mut ends = [0; TWICE];
+    let mut costs = [None; PLACES];
+    let mut waiting = [None; TWICE];
+    let places = records.all.len();
+    let made = records.resolve(&mut edges);
+    let ends = &mut ends[..places + 1];
+    let all = &mut all[..2 * made];
+    let costs = &mut costs[..places];
+    lay_out(&edges[..made], ends, all);
+    let neighbours = Neighbours::new(ends, all);
+    settle(&neighbours, goal, costs, &mut waiting[..2 * places]);
+    let Some(cost) = costs[start] else {
+        return Err(Refusal::NotJoined);
+    };
+    let count = cost.steps + 1;
+    if list.len() < count as usize {
+        return Err(Refusal::ShortList(count));
+    }
+    walk(&neighbours, costs, start, list);
+    rename(records.all, &mut list[..count as usize]);
+    Ok((cost.length, count))
 }
 
-// The smallest number that a chain of edges from the record at `at` reaches.
+/// The smallest number that a chain of edges from the record at `at` reaches.
 pub fn island(records: &Records, at: usize) -> u16
     requires { at < length records.now.all.now }
     ensures { Island (Standing records.now.all.now) (Linked (edges_of records.now.all.now)) (number_at records.now.all.now at) result }
 {
-    let mut edges = [NO_EDGE; 8192];
-    let mut costs = [0; 1024];
-    let costs = &mut costs[0..records.all.len()];
-    survey(records, at, &mut edges, costs);
-    first_number(records, costs)
+    match records.all.len() {
+        0..=SMALL => island_in::<64, 512>(records, at),
+        65..=MEDIUM => island_in::<256, 2048>(records, at),
+        _ => island_in::<1024, 8192>(records, at),
+    }
 }
 
-// The chosen chain from the record at `start` to that at `goal`: writes its numbers, and returns its length
-// and count.
+/// The chosen chain from the record at `start` to that at `goal`: writes its numbers, and returns its length
+/// and count.
 pub fn route(
     records: &Records,
     start: usize,
@@ -63,19 +113,9 @@ pub fn route(
     requires { (start < length records.now.all.now) × (goal < length records.now.all.now) }
     ensures { Routed (Standing records.now.all.now) (Linked (edges_of records.now.all.now)) (number_at records.now.all.now start) (number_at records.now.all.now goal) list.old (told result) list.new }
 {
-    let mut edges = [NO_EDGE; 8192];
-    let mut costs = [0; 1024];
-    let costs = &mut costs[0..records.all.len()];
-    let made = survey(records, goal, &mut edges, costs);
-    let cost = costs[start];
-    if cost >= NONE {
-        return Err(Refusal::NotJoined);
+    match records.all.len() {
+        0..=SMALL => route_in::<64, 128, 512, 1024>(records, start, goal, list),
+        65..=MEDIUM => route_in::<256, 512, 2048, 4096>(records, start, goal, list),
+        _ => route_in::<1024, 2048, 8192, 16384>(records, start, goal, list),
     }
-    let count = (cost % 65536) as usize + 1;
-    if list.len() < count {
-        return Err(Refusal::ShortList(count as u16));
-    }
-    walk(costs, &edges[0..made], start, goal, list);
-    rename(records.all, &mut list[0..count]);
-    Ok(((cost / 65536) as u32, count as u16))
 }

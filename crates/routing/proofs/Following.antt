@@ -118,7 +118,7 @@ module _ (edges : List Edge) (goal : ℕ) (costs : List (Option Cost)) (few : le
       go (Some c) e =
           let m = settling.known edges goal (ranks costs) few' inside' settled i l in
           let k : i < length costs = omega (arith, many, m) in
-          (c, e, rank_at costs i ∙ ap rank_of e, k, steps i c k e)
+          (c, e, rank_at costs i ∙ ap rank_of e, k, (steps i c k e).0)
 
   -- a step that leads on is tight, and the other way round
   tight_leads : (c n : Cost) (d : ℕ) → c.steps < 1024 → n.steps < 1024 → rank n + step_cost d ≡ rank c → leads_on (Some c) (Some n) d ≡ true

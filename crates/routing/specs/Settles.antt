@@ -24,6 +24,6 @@ pub data HandedOn (c : Cost) : List Neighbour → List (Option Cost) → List (O
   one_more : (n : Neighbour) (ns : List Neighbour) (costs costs' costs'' : List (Option Cost)) (waiting waiting' waiting'' : List (Option Waiting))
       → Offered n.place (onward c n.length) costs waiting costs' waiting' → HandedOn c ns costs' waiting' costs'' waiting'' → HandedOn c (n ∷ ns) costs waiting costs'' waiting''
 
--- no chain that a cost is of has as many steps as there are places
+-- every cost is of fewer steps than there are places, and no longer than so many of the greatest distance
 abbrev pub FewSteps : List (Option Cost) → Type 0
-FewSteps costs = (i : ℕ) (c : Cost) → i < length costs → cost_of costs i ≡ Some c → c.steps < length costs
+FewSteps costs = (i : ℕ) (c : Cost) → i < length costs → cost_of costs i ≡ Some c → (c.steps < length costs) × (c.length ≤ 1024 * 1048576)

@@ -73,7 +73,7 @@ pub returns : goal.returns
 returns c =
     let inv = c.loop-next.invariant in
     record {
-      few = λ i k l e. steps_few c.loop-next.costs inv.1 i k l e;
+      few = λ i k l e. (steps_few c.loop-next.costs inv.1 i k l e, (cost_short c.loop-next.costs inv.1 inv.0.few i k l e).0);
       settled = λ edges laid inside.
           settled_when edges c.args.goal (length c.args.costs.now) c.loop-next.costs c.loop-next.waiting (omega (arith, c.loop-next.auto.costs, c.offer.auto.costs, c.fill.ensures.len)) inside inv.0.twice
           (taken_none c.loop-next.waiting c.take.new.matches c.take.result c.take.ensures c.in_default.not-Some) (inv.2 edges laid inside);
