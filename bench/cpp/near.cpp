@@ -5,6 +5,7 @@
 #include "tables.h"
 #include <iostream>
 #include <ompl/datastructures/NearestNeighborsGNATNoThreadSafety.h>
+#include <ompl/util/RandomNumbers.h>
 
 static const size_t WANTED = 8;
 static const size_t QUERIES = 64;
@@ -180,6 +181,8 @@ static void tables_of(const Input &input) {
 }
 
 void tables_of_near() {
+    // OMPL's tree chooses its first pivots at random: the same in every run.
+    ompl::RNG::setSeed(1);
     for (size_t count : {size_t(64), size_t(1024)})
         for (Shape shape : {Shape::spread_out, Shape::clustered, Shape::many_ties}) {
             Poses poses(shape);
