@@ -10,8 +10,8 @@
 # It needs the kit's `rt`, g++, python3, valgrind and Debian's libompl-dev. The library is that of the last commit of this
 # checkout: it is cloned, proved and built for C, with the functions of library/ in a crate of their own, which ask a
 # measuring program in cpp/ to look at its clock, its count or its stack. Since these are C functions, `rt` is told that
-# this crate, and no other, may declare some. With BENCH_FOLDER=FOLDER what is built stays there, and is used again by a
-# later run at the same commit.
+# this crate, and no other, may declare some. With BENCH_FOLDER=FOLDER what is built stays there, and is used again by
+# a later run over the same crates.
 #
 # What is measured, by subject:
 #   near     our scan and our tree beside a plain scan, a tree by the same rules in plain C++ (its ranges laid out as the
@@ -34,8 +34,7 @@ mkdir -p "$work"
 
 # The library of the last commit, as C calls it, and `levelrun`.
 build_library() {
-    commit=$(git -C "$here/.." rev-parse HEAD)
-    state="$commit $(cat "$here"/library/*.txt "$here"/library/specs/*.txt | cksum)"
+    state="$(git -C "$here/.." rev-parse HEAD:crates HEAD:crates.txt) $(cat "$here"/library/*.txt "$here"/library/specs/*.txt | cksum)"
     [ "$state" = "$(cat "$work/built" 2> /dev/null)" ] && return
     rm -rf "$work/repository"
     git clone -q "$here/.." "$work/repository"
@@ -69,7 +68,7 @@ show_times() {
 show_counts() {
     rm -rf "$work/dumps"
     mkdir "$work/dumps"
-    valgrind -q --tool=callgrind --instr-atstart=no --callgrind-out-file="$work/dumps/out" "$work/compare" $subjects > "$work/counts"
+    LD_BIND_NOW=1 valgrind -q --tool=callgrind --instr-atstart=no --callgrind-out-file="$work/dumps/out" "$work/compare" $subjects > "$work/counts"
     python3 "$here/tables.py" "$work/counts" "$work/dumps"
     case $subjects in *levels*) python3 "$here/levels.py" counts "$levelrun" "$work/levels" ;; esac
 }
