@@ -47,7 +47,7 @@ fn to_one_goal<'a, I: Index<Element = Spot> + Drop>(
     let (_, _, last) = model.tally();
     let edges = edges_of(heap, model)?;
     let costs = costs_to(heap, edges.as_slice(), last, goal)?;
-    let least = smallest_reached(costs.as_slice()).ok_or(Refusal::NotStanding(goal));
+    let least = smallest_reached(costs.as_slice(), last).ok_or(Refusal::NotStanding(goal));
     assert_eq!(rt; road.island(goal), least);
     let mut list = vec![in heap; 0; 1024]?;
     for start in starts {
@@ -106,7 +106,7 @@ fn at_random(rt: &(impl Abort + AllocGlobal), k: u32, places: u32, seed: u32) ->
     };
     for i in 1..300u16 {
         let spot = Spot {
-            place: rolls.below(places) as u8,
+            place: rolls.below(places).min(255) as u8,
             mark: rolls.below(4) as u8,
         };
         add(rt, &mut road, &mut model, spot)?;

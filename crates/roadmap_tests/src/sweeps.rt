@@ -127,10 +127,12 @@ pub fn chain_from(
     Ok(numbers)
 }
 
-// The smallest number that has a cost.
-pub fn smallest_reached(costs: &[Option<Cost>]) -> Option<u16> {
-    costs
-        .iter()
-        .position(|cost| cost.is_some())
-        .map(|place| place as u16)
+// The smallest number up to the last that has a cost.
+pub fn smallest_reached(costs: &[Option<Cost>], last: u16) -> Option<u16> {
+    for number in 1..last {
+        if cost_at(costs, number).is_some() {
+            return Some(number);
+        }
+    }
+    cost_at(costs, last).map(|_| last)
 }
