@@ -3,6 +3,7 @@
 #include "measure.h"
 #include "plain_tree.h"
 #include "tables.h"
+// OMPL's header uses it without including it.
 #include <iostream>
 #include <ompl/datastructures/NearestNeighborsGNATNoThreadSafety.h>
 #include <ompl/util/RandomNumbers.h>
