@@ -5,7 +5,11 @@
 mod beside;
 pub mod kind;
 #[cfg(test)]
+mod large;
+#[cfg(test)]
 mod model;
+#[cfg(test)]
+mod sweeps;
 #[cfg(test)]
 mod tests;
 #[cfg(test)]

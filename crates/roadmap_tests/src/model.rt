@@ -88,6 +88,11 @@ impl Model {
         self.k
     }
 
+    // The pairs that are joined, by number.
+    pub fn edges(&self) -> &[(u16, u16)] {
+        self.edges.as_slice()
+    }
+
     pub fn element(&self, number: u16) -> Result<Spot, Refusal> {
         self.standing
             .get(&number)
