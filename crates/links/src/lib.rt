@@ -84,7 +84,7 @@ impl<'a> Records<'a> {
         ensures made { OneMore self.now.all.now at edges.old made edges.new result }
         ensures rest { drop result edges.new ≡ drop result edges.old }
     {
-        let record = self.all[at];
+        let record = &self.all[at];
         // Counted as they are written: an elder that does not stand has no edge.
         let mut all = made;
         for elder in &record.elders[..record.count as usize] {

@@ -46,6 +46,20 @@ pub parent_top : (parents : List ℕ) (p r : ℕ) → Top parents p r → Top pa
 parent_top parents p r (ends q e) = subst (λ z. Top parents z q) (sym e) (ends q e)
 parent_top parents p r (climbs q s l t) = t
 
+-- and the other way round
+pub top_by_parent : (parents : List ℕ) → IsForest parents → (p r : ℕ) → p < length parents → Top parents (slice_index parents p) r → Top parents p r
+top_by_parent parents forest p r l t = go (cases_lt (slice_index parents p) p)
+  where
+    go : (slice_index parents p < p) ⊎ (p ≤ slice_index parents p) → Top parents p r
+    go (inl y) = climbs p r y t
+    go (inr y) = let e : slice_index parents p ≡ p = omega (arith, forest p l) in subst (λ z. Top parents z r) e t
+
+-- places of one parent are together
+pub same_parent : (parents : List ℕ) → IsForest parents → (p q : ℕ) → p < length parents → q < length parents → slice_index parents p ≡ slice_index parents q → Together parents p q
+same_parent parents forest p q l m e =
+    let t = top_of parents forest p l in
+    (t.0, t.1, top_by_parent parents forest q t.0 m (subst (λ z. Top parents z t.0) e (parent_top parents p t.0 t.1)))
+
 -- another parent, above which the way up ends at the same place or at a new one
 module _ (parents : List ℕ) (at to : ℕ) (inside : at < length parents) where
   here : slice_index (set parents at to) at ≡ to

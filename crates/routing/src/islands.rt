@@ -30,6 +30,10 @@ fn unite(parents: &mut [u16], one: usize, other: usize)
     requires few { length parents.old ≤ 1024 }
     ensures { United one other parents.old parents.new }
 {
+    // Most edges of a dense map join two places that are joined already.
+    if parents[one] == parents[other] {
+        return;
+    }
     let one = top(parents, one);
     let other = top(parents, other);
     if one < other {

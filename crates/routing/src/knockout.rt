@@ -1,7 +1,7 @@
 // Places that wait, as a knockout by cost. With n places, place p stands at n + p while it waits, and at each i from 1 to
 // n - 1 stands the one of less cost of those at 2i and 2i + 1: so the one of least cost stands at 1. Nobody stands at 0.
-ghost use Rattle.std.specs.Prelude.{◌≡◌, ◌*◌, ◌<◌, length};
-ghost use Rattle.routing.specs.Knockouts.{winner_of, wins_of, places, waits, DecidedBut, Below, IsKnockout, Replayed, PutIn, Taken};
+ghost use Rattle.std.specs.Prelude.{◌≡◌, ◌*◌, ◌/◌, ◌<◌, ◌≤◌, length};
+ghost use Rattle.routing.specs.Knockouts.{winner_of, wins_of, beside, places, waits, DecidedBut, Below, IsKnockout, Replayed, PutIn, Taken};
 
 use crate::cost::Cost;
 
@@ -25,17 +25,28 @@ fn winner(one: Option<Waiting>, other: Option<Waiting>) -> Option<Waiting>
     if second.cost < first.cost { other } else { one }
 }
 
-// Plays again from one match up to the last.
-fn replay(matches: &mut [Option<Waiting>], from: usize)
+// The other one of the match that this one plays.
+fn beside(at: usize) -> usize
+    requires { (1 < at) × (at < 2048) }
+    ensures { result ≡ beside at }
+{
+    if at % 2 == 0 { at + 1 } else { at - 1 }
+}
+
+// Plays again all matches above this one, which has changed.
+fn replay(matches: &mut [Option<Waiting>], changed: usize)
     requires even { length matches.old ≡ 2 * places matches.old }
-    requires inside { from < places matches.old }
-    requires others { DecidedBut from matches.old }
+    requires few { places matches.old ≤ 1024 }
+    requires inside { (1 ≤ changed) × (changed < length matches.old) }
+    requires others { DecidedBut (changed / 2) matches.old }
     ensures { Replayed matches.old matches.new }
 {
-    let mut at = from;
-    while at > 0 {
-        matches[at] = winner(matches[2 * at], matches[2 * at + 1]);
+    let mut at = changed;
+    let mut best = matches[at];
+    while at > 1 {
+        best = winner(best, matches[beside(at)]);
         at /= 2;
+        matches[at] = best;
     }
 }
 
@@ -61,10 +72,10 @@ pub fn put(matches: &mut [Option<Waiting>], place: usize, cost: Cost)
         cost,
         place: place as u16,
     };
-    let mut at = matches.len() / 2 + place;
+    let leaf = matches.len() / 2 + place;
+    matches[leaf] = Some(waiting);
     // On its way up it beats whom it costs less than; where it does not, all is decided as before.
-    matches[at] = Some(waiting);
-    at /= 2;
+    let mut at = leaf / 2;
     while at > 0 && wins(cost, matches[at]) {
         matches[at] = Some(waiting);
         at /= 2;
@@ -75,11 +86,12 @@ pub fn put(matches: &mut [Option<Waiting>], place: usize, cost: Cost)
 pub fn take(matches: &mut [Option<Waiting>]) -> Option<Waiting>
     requires knockout { IsKnockout matches.old }
     requires some { 0 < places matches.old }
+    requires few { places matches.old ≤ 1024 }
     ensures { Taken matches.old result matches.new }
 {
     let least = matches[1]?;
     let at = matches.len() / 2 + least.place as usize;
     matches[at] = None;
-    replay(matches, at / 2);
+    replay(matches, at);
     Some(least)
 }

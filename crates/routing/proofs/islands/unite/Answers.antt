@@ -2,7 +2,7 @@ use Rattle.std.proofs.Common.{◌≡◌, ℕ, ◌<◌, ◌≤◌, ◌⊎◌, Lis
 use Rattle.std.proofs.lemmas.List.{length-set}
 use Rattle.chains.specs.declared.Edge.{Edge}
 use Rattle.routing.specs.Forests.{IsForest, Top, JoinedIn, Grown, Together, Climbed, United}
-use Rattle.routing.proofs.Climbing.{link_together, link_still, link_forest, link_grown}
+use Rattle.routing.proofs.Climbing.{link_together, link_still, link_forest, link_grown, same_parent}
 use Rattle.routing.proofs.islands.unite.Goals as goal
 
 -- the greater of the two ends gets the smaller as its parent
@@ -33,3 +33,14 @@ returns-else-one-other c =
     let y = c.top-other.ensures in
     united c.args.parents.now c.top-one.new.parents c.top-other.new.parents c.args.one c.args.other c.top-one.result c.top-other.result c.top-other.result c.top-one.result c.requires.inside.0 c.requires.inside.1 x y
     c.if-one-other.false (omega (arith, x.below, x.long, y.long, c.requires.inside.0)) (inr (refl, refl))
+
+pub returns-then-parents-one : goal.returns-then-parents-one
+returns-then-parents-one c =
+    let parents = c.args.parents.now in
+    record {
+      long = refl;
+      forest = c.requires.forest;
+      together = same_parent parents c.requires.forest c.args.one c.args.other c.requires.inside.0 c.requires.inside.1 c.if-parents-one.true;
+      still = λ p q t. t;
+      grown = λ edges j g. g;
+    }
