@@ -1,6 +1,8 @@
 pub mod Loops
 pub mod Leaving
+pub mod Under
 pub mod Level
+pub mod Descending
 pub mod Choices
 pub mod Candidates
 pub mod Clearing

@@ -4,3 +4,4 @@ pub mod Leaf
 pub mod Choosing
 pub mod Filling
 pub mod Dropping
+pub mod Under

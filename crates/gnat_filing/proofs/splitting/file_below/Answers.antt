@@ -1,6 +1,7 @@
-use Rattle.std.proofs.Common.{◌-◌, ◌<◌, length, get_or, sym, refl, ap, ◌∙◌, subst, arith, rules}
+use Rattle.std.proofs.Common.{◌-◌, ◌<◌, ◌∷◌, length, get_or, sym, refl, ap, ◌∙◌, subst, arith, rules}
 use Rattle.std.specs.List.{slice_get}
 use Rattle.gnat_theory.specs.Tree.Tree.{leaf}
+use Rattle.gnat_theory.specs.Filing.{filed}
 use Rattle.gnat_rows.specs.Rows.{with_node}
 use Rattle.gnat_rows.specs.Shows.{sample_in}
 use Rattle.gnat_rows.specs.declared.Node.TheVariants as node
@@ -9,7 +10,8 @@ use Rattle.gnat_filing.specs.Filed.{Ready}
 use Rattle.gnat_filing.specs.Widening.{Approaches}
 use Rattle.gnat_filing.proofs.Leaving.{is_leaf}
 use Rattle.gnat_filing.proofs.Filling.{leaf_takes}
-use Rattle.gnat_filing.proofs.Level.{is_branch, pivoted, nth_child, child_ready, filed_below}
+use Rattle.gnat_filing.proofs.Level.{is_branch, pivoted, nth_child, pivot_apart, child_ready, filed_below}
+use Rattle.gnat_filing.proofs.Under.{put_after}
 use Rattle.gnat_filing.proofs.splitting.file_below.Goals as goal
 
 pub approach-j-requires : goal.approach-j-requires
@@ -86,6 +88,7 @@ returns g c degree t fs row some r there =
     let ready = subst (λ z. Ready degree 31 (2 - 1) rows z at kid.tree kid.below) (ap (λ z. z.node) same ∙ sym read.2) (child_ready degree 31 2 rows (node.Branch b) at t fs b i j kid) in
     let element = own.2 ∙ ap (λ z. z.element) (same_row rows at own.0 row own.1 there) in
     let near = subst (λ z. Approaches dist rows z b c.approach-j.new.b j) element c.approach-j.ensures in
-    filed_below degree 31 2 rows (node.Branch b) at t fs b i dist leaf rows c.put_node.new.rows c.approach-j.new.b j c.lengthened.result (sample_in row) kid near
-    (leaf_takes dist degree rows c.node_in-child.result c.lengthened.result at kid.tree kid.below row there ready c.lengthened.ensures.leaf)
-    (c.put_node.ensures ∙ ap (λ z. with_node (get_or z j 0) c.lengthened.result rows) still)
+    let kept = leaf_takes dist degree rows c.node_in-child.result c.lengthened.result at kid.tree kid.below row there ready c.lengthened.ensures.leaf in
+    let put = c.put_node.ensures ∙ ap (λ z. with_node (get_or z j 0) c.lengthened.result rows) still in
+    filed_below degree 31 2 rows (node.Branch b) at t fs b i dist leaf c.put_node.new.rows c.approach-j.new.b j (sample_in row) kid near
+    (put_after (get_or b.pivots j 0) c.lengthened.result rows rows c.put_node.new.rows (filed dist leaf (sample_in row) kid.tree) (at ∷ kid.below) kid.row kid.there (pivot_apart rows b at i.parts fs i.ready j kid) kept put)
