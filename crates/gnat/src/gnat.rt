@@ -108,7 +108,7 @@ impl<'a, E: Metric> Gnat<'a, E> {
     {
         let row = self.row_at(at);
         let rows = &mut *self.rows;
-        let dropped = take_out(rows, self.root, row, 1025);
+        let dropped = take_out(rows, self.root, row);
         self.marked = unlist(rows, at, self.standing, self.marked, dropped.freed);
         self.root = dropped.node;
         self.standing -= 1;

@@ -1,24 +1,25 @@
 -- One branch further down: what is left to do below it is what was left to do. Assumes nothing.
-use Rattle.std.proofs.Common.{◌≡◌, ℕ, ◌+◌, ◌-◌, ◌<◌, ◌≤◌, List, ◌∷◌, ◌++◌, length, get_or, Some, None, Option, sym, refl, ap, ◌∙◌, subst, arith}
+use Rattle.std.proofs.Common.{◌≡◌, ℕ, ◌+◌, ◌-◌, ◌<◌, ◌≤◌, List, [], ◌∷◌, ◌++◌, length, get_or, Some, None, Option, sym, refl, ap, ◌∙◌, subst, arith}
 use Rattle.std.specs.List.{slice_get}
 use Rattle.hits.proofs.Among.{all_right}
 use Rattle.gnat_theory.specs.Tree.{Tree}
 use Rattle.gnat_theory.specs.Splitting.{kept_or_split, grown}
+use Rattle.gnat_theory.specs.Shuffles.{Shuffle}
 use Rattle.gnat_rows.specs.declared.Branch.{Branch as BranchRecord}
 use Rattle.gnat_rows.specs.declared.Node.{Node}
 use Rattle.gnat_rows.specs.declared.Node.TheVariants as node
 use Rattle.gnat_rows.specs.declared.Row.{Row}
 use Rattle.gnat_rows.specs.Rows.{with_node}
-use Rattle.gnat_rows.specs.Shows.{sample_in}
+use Rattle.gnat_rows.specs.Shows.{sample_in, Shows}
 use Rattle.gnat_rows.specs.Lying.{Absent}
-use Rattle.gnat_rows.specs.Trees.{height, height_parts, tree_of}
+use Rattle.gnat_rows.specs.Trees.{height, tree_of}
 use Rattle.gnat_rows.proofs.Trees.{shown_tree}
 use Rattle.gnat_rows.proofs.Changes.{length_changed}
-use Rattle.gnat_rows.proofs.Showing.{ Child, frame_parts, of_child}
+use Rattle.gnat_rows.proofs.Showing.{ Child, frame_parts}
 use Rattle.gnat_filing.specs.Filed.{Ready, LeavesTree}
 use Rattle.gnat_filing.specs.Under.{ReadyUnder, LeavesUnder, Reached, Reaches, FilesUnder}
 use Rattle.gnat_filing.specs.Widening.{Approaches}
-use Rattle.gnat_filing.proofs.Level.{IsBranch, nth_child, pivot_apart, child_ready, filed_below}
+use Rattle.gnat_filing.proofs.Level.{IsBranch, child_lower, nth_child, pivot_apart, child_ready, filed_below}
 use Rattle.gnat_filing.proofs.Under.{over, put_others, put_same, put_before}
 
 module _ {E : Type 0} (degree bucket : ℕ) (rows : List (Row E)) (n : Node) (at : ℕ) (t : Tree E) (fs : List ℕ) (b : BranchRecord) (i : IsBranch degree bucket 1025 rows n at t fs b) where
@@ -31,13 +32,8 @@ module _ {E : Type 0} (degree bucket : ℕ) (rows : List (Row E)) (n : Node) (at
           row = c.row;
           there = c.there;
           ready = record { shows = r.shows; apart = r.apart; within = r.within; deep = omega (arith, r.deep); branching = r.branching; leaves = r.leaves };
-          apart = pivot_apart rows b at i.parts fs i.ready j c;
+          apart = pivot_apart rows b (at ∷ []) i.parts fs i.ready j c;
         }
-
-    pub child_lower : height c.tree + 1 ≤ height t
-    child_lower =
-        let below = of_child (λ u. height u ≤ height_parts i.parts) (λ ps. height_parts ps ≤ height_parts i.parts) (λ p col u rest h. (omega arith, omega arith)) j i.parts c.tree c.is_child (omega arith) in
-        omega (arith, below, ap height i.tree)
 
   -- a node is written to a row that is none of them
   module _ (pivot : ℕ) (m : Node) (rows₁ : List (Row E)) (apart : Absent pivot (at ∷ fs)) (put : rows₁ ≡ with_node pivot m rows) where
@@ -70,7 +66,7 @@ module _ {E : Type 0} (degree bucket : ℕ) (rows : List (Row E)) (n : Node) (at
         }
       where
         off : (k : ℕ) → k < b.count → pivot ≡ get_or b.pivots k 0 → ⊥
-        off k l = let c = nth_child rows b at i.parts fs i.ready k l in (all_right (λ z. pivot ≡ z → ⊥) c.before (get_or b.pivots k 0 ∷ (c.below ++ c.behind)) (subst (Absent pivot) c.lies apart.1)).0
+        off k l = let c = nth_child rows b (at ∷ []) i.parts fs i.ready k l in (all_right (λ z. pivot ≡ z → ⊥) c.before (get_or b.pivots k 0 ∷ (c.below ++ c.behind)) (subst (Absent pivot) c.lies apart.1)).0
 
 -- the branch in a pivot's row is widened, and the sample goes on below its nearest pivot
 module _ {E : Type 0} (dist : E → E → ℕ) (degree bucket : ℕ) (rows rows₁ : List (Row E)) (pivot at : ℕ) (t : Tree E) (fs : List ℕ) (own : Row E) (r : ReadyUnder degree bucket rows pivot at t fs) (here : slice_get rows at ≡ Some own)
@@ -79,7 +75,7 @@ module _ {E : Type 0} (dist : E → E → ℕ) (degree bucket : ℕ) (rows rows�
   i₁ = still_branch degree bucket rows r.row.node at t fs b i pivot (node.Branch b') rows₁ r.apart put
 
   abbrev child₁ : Child rows₁ b 0 j j i₁.parts fs
-  child₁ = nth_child rows₁ b at i₁.parts fs i₁.ready j near.below
+  child₁ = nth_child rows₁ b (at ∷ []) i₁.parts fs i₁.ready j near.below
 
   pub one_lower : Reached dist degree bucket 1 rows rows₁ pivot (get_or b.pivots j 0) at t fs own
   one_lower =
@@ -88,8 +84,8 @@ module _ {E : Type 0} (dist : E → E → ℕ) (degree bucket : ℕ) (rows rows�
         lies = child₁.below;
         ready = under_child degree bucket rows₁ r.row.node at t fs b i₁ j child₁;
         there = put_others pivot (node.Branch b') rows rows₁ put at r.apart.0 ∙ here;
-        lower = child_lower degree bucket rows₁ r.row.node at t fs b i₁ j child₁;
-        left = λ later below. put_before pivot (node.Branch b') rows rows₁ later (grown dist degree bucket (sample_in own) t) (at ∷ fs) r.row r.there r.apart put
+        lower = child_lower i₁.parts t child₁.tree j i₁.tree child₁.is_child;
+        left = λ later below. put_before pivot (node.Branch b') (λ lies. Shuffle ℕ lies (at ∷ fs)) rows rows₁ later (grown dist degree bucket (sample_in own) t) (at ∷ fs) r.row r.there r.apart put
             (filed_below degree bucket 1025 rows₁ r.row.node at t fs b i₁ dist (kept_or_split dist degree bucket) later b' j (sample_in own) child₁
             (still_near degree bucket rows r.row.node at t fs b i pivot (node.Branch b') rows₁ r.apart put dist own.element b' j near) below);
       }
@@ -121,6 +117,6 @@ module _ {E : Type 0} (rows : List (Row E)) where
   unfoldable pub levels_below : ℕ → ℕ
   levels_below i = levels_on (slice_get rows i)
 
-  pub levels_are : (degree bucket pivot at : ℕ) (t : Tree E) (fs : List ℕ) → ReadyUnder degree bucket rows pivot at t fs → levels_below pivot ≡ height t
+  pub levels_are : (pivot : ℕ) (row : Row E) (t : Tree E) (fs : List ℕ) → slice_get rows pivot ≡ Some row → Shows rows row.node t fs → height t < 1025 → levels_below pivot ≡ height t
   unfolding levels_below
-  levels_are degree bucket pivot at t fs r = ap levels_on r.there ∙ ap height (shown_tree rows t 1025 r.row.node fs r.ready.shows r.ready.deep)
+  levels_are pivot row t fs there shows deep = ap levels_on there ∙ ap height (shown_tree rows t 1025 row.node fs shows deep)

@@ -9,3 +9,4 @@ pub mod Clearing
 pub mod Filling
 pub mod Assembling
 pub mod Shrinking
+pub mod Seeking

@@ -3,6 +3,7 @@ use Rattle.std.proofs.Common.{◌≡◌, ℕ, List, [], ◌∷◌, Some, sym, re
 use Rattle.std.specs.List.{slice_get, AllByRecursion}
 use Rattle.std.proofs.ByRecursion.{All-weaker}
 use Rattle.gnat_theory.specs.Tree.{Tree}
+use Rattle.gnat_theory.specs.Shuffles.{Shuffle}
 use Rattle.gnat_theory.proofs.Shuffling.{all_shuffle, shuffle_back}
 use Rattle.gnat_rows.specs.declared.Node.{Node}
 use Rattle.gnat_rows.specs.declared.Row.{Row}
@@ -12,8 +13,12 @@ use Rattle.gnat_rows.specs.Lying.{Absent, OnlyIn}
 use Rattle.gnat_rows.proofs.Changes.{nth_changed, nth_unchanged}
 use Rattle.gnat_rows.proofs.Only.{only_wider, only_then, only_node}
 use Rattle.gnat_rows.proofs.Showing.{Same, frame}
-use Rattle.gnat_filing.specs.Filed.{LeavesTree}
-use Rattle.gnat_filing.specs.Under.{LeavesUnder}
+use Rattle.gnat_filing.specs.Filed.{LeavesIn}
+use Rattle.gnat_filing.specs.Under.{LeavesUnderIn}
+
+-- what is none of the rows is none of them in another order
+pub still_absent : (i : ℕ) (fs gs : List ℕ) → Absent i fs → Shuffle ℕ gs fs → Absent i gs
+still_absent i fs gs a s = all_shuffle (λ k. i ≡ k → ⊥) fs gs (shuffle_back gs fs s) a
 
 module _ {E : Type 0} (pivot : ℕ) (n : Node) where
   -- the row with the node in it
@@ -33,11 +38,10 @@ module _ {E : Type 0} (pivot : ℕ) (n : Node) where
     put_only : (fs : List ℕ) → OnlyIn (pivot ∷ fs) rows rows'
     put_only fs = subst (OnlyIn (pivot ∷ fs) rows) (sym put) (only_wider rows (with_node pivot n rows) (pivot ∷ []) (pivot ∷ fs) (λ i a. (a.0, tt)) (only_node rows pivot n))
 
-  module _ (rows rows₁ rows₂ : List (Row E)) (t : Tree E) (fs : List ℕ) (row : Row E) (there : slice_get rows pivot ≡ Some row) (apart : Absent pivot fs) where
+  module _ (Order : List ℕ → Type 0) (rows rows₁ rows₂ : List (Row E)) (t : Tree E) (fs : List ℕ) (row : Row E) (there : slice_get rows pivot ≡ Some row) (apart : Absent pivot fs) where
     -- the rows below change, and then the node is written
-    pub put_after : LeavesTree rows rows₁ n t fs → rows₂ ≡ with_node pivot n rows₁ → LeavesUnder rows rows₂ pivot t fs
-    put_after made put =
-        let apart' : Absent pivot made.lies = all_shuffle (λ i. pivot ≡ i → ⊥) fs made.lies (shuffle_back made.lies fs made.same_rows) apart in
+    pub put_after : ((lies : List ℕ) → Order lies → Absent pivot lies) → LeavesIn Order rows rows₁ n t fs → rows₂ ≡ with_node pivot n rows₁ → LeavesUnderIn Order rows rows₂ pivot t fs
+    put_after off made put =
         record {
           row = row;
           there = there;
@@ -45,13 +49,13 @@ module _ {E : Type 0} (pivot : ℕ) (n : Node) where
           there' = put_there rows₁ rows₂ put row (made.only.others pivot apart ∙ there);
           same_pivot = refl;
           lies = made.lies;
-          shows = frame rows₁ rows₂ n t made.lies (put_same rows₁ rows₂ put made.lies apart') made.shows;
+          shows = frame rows₁ rows₂ n t made.lies (put_same rows₁ rows₂ put made.lies (off made.lies made.same_rows)) made.shows;
           same_rows = made.same_rows;
           only = only_then rows rows₁ rows₂ (pivot ∷ fs) (only_wider rows rows₁ fs (pivot ∷ fs) (λ i a. a.1) made.only) (put_only rows₁ rows₂ put fs);
         }
 
     -- the node is written, and then the rows below change
-    pub put_before : rows₁ ≡ with_node pivot n rows → LeavesTree rows₁ rows₂ n t fs → LeavesUnder rows rows₂ pivot t fs
+    pub put_before : rows₁ ≡ with_node pivot n rows → LeavesIn Order rows₁ rows₂ n t fs → LeavesUnderIn Order rows rows₂ pivot t fs
     put_before put made =
         record {
           row = row;
@@ -64,3 +68,18 @@ module _ {E : Type 0} (pivot : ℕ) (n : Node) where
           same_rows = made.same_rows;
           only = only_then rows rows₁ rows₂ (pivot ∷ fs) (put_only rows rows₁ put fs) (only_wider rows₁ rows₂ fs (pivot ∷ fs) (λ i a. a.1) made.only);
         }
+
+-- the rows below change, and the node stays
+pub as_it_was : {E : Type 0} (Order : List ℕ → Type 0) (rows rows' : List (Row E)) (pivot : ℕ) (t : Tree E) (fs : List ℕ) (row : Row E) → slice_get rows pivot ≡ Some row → Absent pivot fs → LeavesIn Order rows rows' row.node t fs → LeavesUnderIn Order rows rows' pivot t fs
+as_it_was Order rows rows' pivot t fs row there apart made =
+    record {
+      row = row;
+      there = there;
+      row' = row;
+      there' = made.only.others pivot apart ∙ there;
+      same_pivot = refl;
+      lies = made.lies;
+      shows = made.shows;
+      same_rows = made.same_rows;
+      only = only_wider rows rows' fs (pivot ∷ fs) (λ i a. a.1) made.only;
+    }

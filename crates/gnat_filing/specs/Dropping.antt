@@ -12,8 +12,9 @@ use Rattle.gnat_rows.specs.declared.Leaf.{Leaf}
 use Rattle.gnat_rows.specs.declared.Node.{Node}
 use Rattle.gnat_rows.specs.declared.Row.{Row}
 use Rattle.gnat_rows.specs.Shows.{sample_in, held, Shows}
-use Rattle.gnat_rows.specs.Lying.{Distinct, OnlyIn}
+use Rattle.gnat_rows.specs.Lying.{Distinct}
 use Rattle.gnat_rows.specs.Trees.{height}
+use Rattle.gnat_filing.specs.Filed.{LeavesIn}
 
 -- the other rows, in their order
 abbrev pub without_row : ℕ → List ℕ → List ℕ
@@ -48,11 +49,8 @@ module _ {E : Type 0} where
   SomeDroppable dist left rows node at = (degree : ℕ) × (t : Tree E) × (fs : List ℕ) × (row : Row E) × Droppable dist degree left rows node at t fs row
 
   -- the rows show the tree, which lies in the rows fs, without `at` if that is freed; no other row is changed
-  pub record Drops (rows rows' : List (Row E)) (node' : Node) (freed : Bool) (at : ℕ) (t : Tree E) (fs : List ℕ) : Type 0 where
-    pub lies : List ℕ
-    pub shows : Shows rows' node' t lies
-    pub same_rows : Shuffle ℕ (cond freed (at ∷ lies) lies) fs
-    pub only : OnlyIn fs rows rows'
+  abbrev pub Drops : List (Row E) → List (Row E) → Node → Bool → ℕ → Tree E → List ℕ → Type 0
+  Drops rows rows' node' freed at t fs = LeavesIn (λ lies. Shuffle ℕ (cond freed (at ∷ lies) lies) fs) rows rows' node' t fs
 
   abbrev pub DropsFrom : (E → E → ℕ) → ℕ → List (Row E) → List (Row E) → Node → Node → Bool → ℕ → Type 0
   DropsFrom dist left rows rows' node node' freed at =

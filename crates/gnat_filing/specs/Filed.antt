@@ -26,12 +26,16 @@ module _ {E : Type 0} where
   abbrev pub Fileable : ℕ → ℕ → ℕ → List (Row E) → Node → ℕ → Type 0
   Fileable degree bucket left rows node at = (t : Tree E) × (fs : List ℕ) × Ready degree bucket left rows node at t fs
 
-  -- the rows show a tree from the node on, which lies in the rows fs, in another order; no other row is changed
-  pub record LeavesTree (rows rows' : List (Row E)) (node' : Node) (t : Tree E) (fs : List ℕ) : Type 0 where
+  -- the rows show a tree from the node on, and of the rows in which it lies this holds; no row but fs is changed
+  pub record LeavesIn (Order : List ℕ → Type 0) (rows rows' : List (Row E)) (node' : Node) (t : Tree E) (fs : List ℕ) : Type 0 where
     pub lies : List ℕ
     pub shows : Shows rows' node' t lies
-    pub same_rows : Shuffle ℕ lies fs
+    pub same_rows : Order lies
     pub only : OnlyIn fs rows rows'
+
+  -- it lies in the rows fs, in another order
+  abbrev pub LeavesTree : List (Row E) → List (Row E) → Node → Tree E → List ℕ → Type 0
+  LeavesTree rows rows' node' t fs = LeavesIn (λ lies. Shuffle ℕ lies fs) rows rows' node' t fs
 
   -- a leaf of at most so many rows and the row `at`, which hold the samples xs
   pub record ReadyLeaf (most : ℕ) (rows : List (Row E)) (l : LeafRecord) (at : ℕ) (xs : List (Sample E)) : Type 0 where

@@ -5,3 +5,4 @@ pub mod Choosing
 pub mod Filling
 pub mod Dropping
 pub mod Under
+pub mod Seeking

@@ -28,9 +28,9 @@ module _ {E : Type 0} where
   abbrev pub HoldsBranch : List (Row E) → ℕ → Branch → Type 0
   HoldsBranch rows pivot b = HasRow rows pivot (λ r. r.node ≡ node.Branch b)
 
-  -- The node in a pivot's row shows a tree, which lies in the rows fs, in another order. The pivot is as it was, and no other
-  -- row is changed.
-  pub record LeavesUnder (rows rows' : List (Row E)) (pivot : ℕ) (t : Tree E) (fs : List ℕ) : Type 0 where
+  -- The node in a pivot's row shows a tree, and of the rows in which it lies this holds. The pivot is as it was, and no other
+  -- row but fs is changed.
+  pub record LeavesUnderIn (Order : List ℕ → Type 0) (rows rows' : List (Row E)) (pivot : ℕ) (t : Tree E) (fs : List ℕ) : Type 0 where
     pub row : Row E
     pub there : slice_get rows pivot ≡ Some row
     pub row' : Row E
@@ -38,8 +38,12 @@ module _ {E : Type 0} where
     pub same_pivot : pivot_in row' ≡ pivot_in row
     pub lies : List ℕ
     pub shows : Shows rows' row'.node t lies
-    pub same_rows : Shuffle ℕ lies fs
+    pub same_rows : Order lies
     pub only : OnlyIn (pivot ∷ fs) rows rows'
+
+  -- it lies in the rows fs, in another order
+  abbrev pub LeavesUnder : List (Row E) → List (Row E) → ℕ → Tree E → List ℕ → Type 0
+  LeavesUnder rows rows' pivot t fs = LeavesUnderIn (λ lies. Shuffle ℕ lies fs) rows rows' pivot t fs
 
 module _ {E : Type 0} (dist : E → E → ℕ) (degree bucket : ℕ) where
   -- whatever tree was below the pivot, it is there with the sample of the row `at` filed

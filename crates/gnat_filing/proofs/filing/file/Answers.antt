@@ -1,4 +1,4 @@
-use Rattle.std.proofs.Common.{get_or, ap, ◌∙◌, subst, arith}
+use Rattle.std.proofs.Common.{[], ◌∷◌, get_or, ap, ◌∙◌, subst, arith}
 use Rattle.gnat_theory.specs.Splitting.{kept_or_split}
 use Rattle.gnat_rows.specs.Shows.{sample_in}
 use Rattle.gnat_rows.proofs.Changes.{nth_there, same_row}
@@ -20,7 +20,7 @@ approach-j-requires g c =
     let rows = c.args.rows.now in
     let r = c.requires in
     let i = is_branch c.args.settings.degree c.args.settings.bucket 1025 rows c.args.node c.args.at r.0 r.1 c.in-Branch.b (omega arith) c.in-Branch.is r.2 in
-    pivoted rows c.in-Branch.b c.args.at i.parts r.1 i.ready
+    pivoted rows c.in-Branch.b (c.args.at ∷ []) i.parts r.1 i.ready
 
 pub bounds-b-j : goal.bounds-b-j
 bounds-b-j g c =
@@ -39,7 +39,7 @@ file_under-requires g c =
     let j = c.approach-j.result in
     let r = c.requires in
     let i = is_branch degree bucket 1025 rows c.args.node at r.0 r.1 b (omega arith) c.in-Branch.is r.2 in
-    let kid = nth_child rows b at i.parts r.1 i.ready j c.approach-j.ensures.below in
+    let kid = nth_child rows b (at ∷ []) i.parts r.1 i.ready j c.approach-j.ensures.below in
     (kid.tree, kid.below, under_child degree bucket rows c.args.node at r.0 r.1 b i j kid)
 
 pub returns-in-Leaf : goal.returns-in-Leaf
@@ -56,7 +56,7 @@ returns-in-Branch g c t fs row r there =
     let at = c.args.at in
     let j = c.approach-j.result in
     let i = is_branch degree bucket 1025 rows c.args.node at t fs b (omega arith) c.in-Branch.is r in
-    let kid = nth_child rows b at i.parts fs i.ready j c.approach-j.ensures.below in
+    let kid = nth_child rows b (at ∷ []) i.parts fs i.ready j c.approach-j.ensures.below in
     let own = c.element_in-element.ensures in
     let element = own.2 ∙ ap (λ z. z.element) (same_row rows at own.0 row own.1 there) in
     let near = subst (λ z. Approaches dist rows z b c.approach-j.new.b j) element c.approach-j.ensures in

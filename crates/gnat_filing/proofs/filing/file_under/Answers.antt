@@ -1,10 +1,11 @@
-use Rattle.std.proofs.Common.{◌∷◌, get_or, sym, ap, ◌∙◌, arith}
+use Rattle.std.proofs.Common.{ℕ, ◌∷◌, get_or, sym, ap, ◌∙◌, arith}
 use Rattle.std.proofs.lemmas.Option.{slice_get_within}
 use Rattle.gnat_theory.specs.Splitting.{grown}
+use Rattle.gnat_theory.specs.Shuffles.{Shuffle}
 use Rattle.gnat_rows.specs.Shows.{sample_in}
 use Rattle.gnat_rows.proofs.Changes.{nth_there, same_row}
 use Rattle.gnat_filing.proofs.Leaving.{is_leaf, leaf_filed}
-use Rattle.gnat_filing.proofs.Under.{put_after}
+use Rattle.gnat_filing.proofs.Under.{still_absent, put_after}
 use Rattle.gnat_filing.proofs.Descending.{reaches_itself, reaches_on, reaches_end, levels_are}
 use Rattle.gnat_filing.proofs.filing.file_under.Goals as goal
 
@@ -48,7 +49,7 @@ returns-in-Leaf g c =
     (λ t fs row r there.
     let same = ap (λ z. z.node) (same_row rows pivot r.row read.0 r.there read.1) ∙ (sym read.2 ∙ c.in-Leaf.is) in
     let filed = leaf_filed degree bucket 1025 rows r.row.node at t fs row c.in-Leaf.l same there r.ready dist c.file_in_leaf-grown.new.rows grown_node c.file_in_leaf-grown.ensures in
-    put_after pivot grown_node rows c.file_in_leaf-grown.new.rows c.put_node.new.rows (grown dist degree bucket (sample_in row) t) (at ∷ fs) r.row r.there r.apart filed c.put_node.ensures)
+    put_after pivot grown_node (λ lies. Shuffle ℕ lies (at ∷ fs)) rows c.file_in_leaf-grown.new.rows c.put_node.new.rows (grown dist degree bucket (sample_in row) t) (at ∷ fs) r.row r.there r.apart (λ lies s. still_absent pivot (at ∷ fs) lies r.apart s) filed c.put_node.ensures)
 
 pub widen_below-pivot-requires-clause-branch : goal.widen_below-pivot-requires-clause-branch
 widen_below-pivot-requires-clause-branch g c = let read = c.node_in.ensures in (read.0, read.1, sym read.2 ∙ c.in-Branch.is)
@@ -69,8 +70,8 @@ loop-l-smaller g c =
     let own = nth_there c.args.rows.now at p.2.ready.within in
     let u = c.loop-l.invariant p.0 p.1 own.0 p.2 own.1 in
     let v = c.widen_below-pivot.ensures degree bucket (omega arith) u.tree u.lies own.0 u.ready u.there in
-    let before = levels_are c.loop-l.rows degree bucket c.loop-l.pivot at u.tree u.lies u.ready in
-    let after = levels_are c.widen_below-pivot.new.rows degree bucket c.widen_below-pivot.result at v.tree v.lies v.ready in
+    let before = levels_are c.loop-l.rows c.loop-l.pivot u.ready.row u.tree u.lies u.ready.there u.ready.ready.shows u.ready.ready.deep in
+    let after = levels_are c.widen_below-pivot.new.rows c.widen_below-pivot.result v.ready.row v.tree v.lies v.ready.there v.ready.ready.shows v.ready.ready.deep in
     omega (arith, v.lower, before, after)
 
 pub loop-l-preserved : goal.loop-l-preserved

@@ -1,4 +1,4 @@
-use Rattle.std.proofs.Common.{◌≡◌, ap, ◌∙◌, subst, arith}
+use Rattle.std.proofs.Common.{◌≡◌, [], ◌∷◌, ap, ◌∙◌, subst, arith}
 use Rattle.std.proofs.lemmas.Option.{slice_get_within}
 use Rattle.gnat_rows.specs.declared.Node.TheVariants as node
 use Rattle.gnat_rows.proofs.Changes.{same_row}
@@ -15,7 +15,7 @@ approach-j-requires g c =
     let held = c.requires.branch in
     let same = ap (λ z. z.node) (same_row rows c.args.pivot r.row held.0 r.there held.1) ∙ held.2 in
     let i = is_branch p.0 p.1 1025 rows r.row.node c.args.at p.3.0 p.3.1 c.args.b p.2 same r.ready in
-    pivoted rows c.args.b c.args.at i.parts p.3.1 i.ready
+    pivoted rows c.args.b (c.args.at ∷ []) i.parts p.3.1 i.ready
 
 pub put_node-requires : goal.put_node-requires
 put_node-requires g c = slice_get_within c.args.rows.now c.args.pivot c.requires.branch.0 c.requires.branch.1
