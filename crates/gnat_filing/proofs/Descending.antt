@@ -1,5 +1,5 @@
 -- One branch further down: what is left to do below it is what was left to do. Assumes nothing.
-use Rattle.std.proofs.Common.{◌≡◌, ℕ, ◌+◌, ◌-◌, ◌<◌, ◌≤◌, List, [], ◌∷◌, ◌++◌, length, get_or, Some, None, Option, sym, refl, ap, ◌∙◌, subst, arith}
+use Rattle.std.proofs.Common.{◌≡◌, ℕ, ◌<◌, List, [], ◌∷◌, ◌++◌, length, get_or, Some, None, Option, refl, ap, ◌∙◌, subst, arith}
 use Rattle.std.specs.List.{slice_get}
 use Rattle.hits.proofs.Among.{all_right}
 use Rattle.gnat_theory.specs.Tree.{Tree}
@@ -15,9 +15,8 @@ use Rattle.gnat_rows.specs.Lying.{Absent}
 use Rattle.gnat_rows.specs.Trees.{height, tree_of}
 use Rattle.gnat_rows.proofs.Trees.{shown_tree}
 use Rattle.gnat_rows.proofs.Changes.{length_changed}
-use Rattle.gnat_rows.proofs.Showing.{ Child, frame_parts}
-use Rattle.gnat_filing.specs.Filed.{Ready, LeavesTree}
-use Rattle.gnat_filing.specs.Under.{ReadyUnder, LeavesUnder, Reached, Reaches, FilesUnder}
+use Rattle.gnat_rows.proofs.Showing.{Child, frame_parts}
+use Rattle.gnat_filing.specs.Under.{ReadyUnder, Reached, Reaches, FilesUnder}
 use Rattle.gnat_filing.specs.Widening.{Approaches}
 use Rattle.gnat_filing.proofs.Level.{IsBranch, child_lower, nth_child, pivot_apart, child_ready, filed_below}
 use Rattle.gnat_filing.proofs.Under.{over, put_others, put_same, put_before}

@@ -1,6 +1,6 @@
 -- Filing at one branch: the child under the nearest pivot is filed into, and put back. Assumes nothing.
-use Rattle.std.proofs.Common.{◌≡◌, ℕ, zero, suc, ◌+◌, ◌-◌, ◌<◌, ◌≤◌, List, [], ◌∷◌, ◌++◌, length, get_or, take, Some, sym, refl, ap, ◌∙◌, subst, arith}
-use Rattle.std.specs.List.{slice_get, AllByRecursion}
+use Rattle.std.proofs.Common.{◌≡◌, ℕ, zero, suc, ◌+◌, ◌-◌, ◌<◌, ◌≤◌, List, [], ◌∷◌, ◌++◌, length, get_or, take, sym, refl, ap, ◌∙◌, subst, arith}
+use Rattle.std.specs.List.{AllByRecursion}
 use Rattle.std.proofs.ByRecursion.{All-weaker}
 use Rattle.std.proofs.lemmas.Option.{slice_get_within}
 use Rattle.hits.specs.Samples.{Sample}
@@ -11,12 +11,11 @@ use Rattle.gnat_theory.specs.Tree.Parts.{none, part}
 use Rattle.gnat_theory.specs.Filing.{nearest, widened, distances, filed, filed_under}
 use Rattle.gnat_theory.specs.Shapes.{Branching, BranchingParts, Leaves, LeavesParts}
 use Rattle.gnat_theory.specs.Shuffles.{Shuffle}
-use Rattle.gnat_theory.proofs.Shuffling.{all_shuffle, shuffle_back}
+use Rattle.gnat_theory.proofs.Shuffling.{all_shuffle}
 use Rattle.gnat_rows.specs.declared.Branch.{Branch as BranchRecord}
 use Rattle.gnat_rows.specs.declared.Node.{Node}
 use Rattle.gnat_rows.specs.declared.Node.TheVariants as node
 use Rattle.gnat_rows.specs.declared.Row.{Row}
-use Rattle.gnat_rows.specs.Rows.{with_node}
 use Rattle.gnat_rows.specs.Shows.{pivot_in, column, Shows, ShowsParts}
 use Rattle.gnat_rows.specs.Lying.{Absent, Distinct, OnlyIn}
 use Rattle.gnat_rows.proofs.Apart.{distinct_left, distinct_across, distinct_shuffle, arranged_with, arranged_back}

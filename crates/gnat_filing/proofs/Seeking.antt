@@ -1,5 +1,5 @@
 -- The way down to the node that holds a sample: to drop it there is to drop it from the root. Assumes nothing.
-use Rattle.std.proofs.Common.{◌≡◌, ℕ, Bool, cond, List, [], ◌∷◌, get_or, Some, sym, ap, ◌∙◌, subst, arith}
+use Rattle.std.proofs.Common.{◌≡◌, ℕ, Bool, cond, List, [], ◌∷◌, get_or, Some, sym, subst, arith}
 use Rattle.std.specs.List.{slice_get}
 use Rattle.hits.specs.Samples.{Among}
 use Rattle.gnat_theory.specs.Tree.{Tree}
@@ -13,7 +13,7 @@ use Rattle.gnat_rows.specs.Rows.{with_node}
 use Rattle.gnat_rows.proofs.Changes.{same_row}
 use Rattle.gnat_rows.proofs.Showing.{Child}
 use Rattle.gnat_filing.specs.Dropping.{Droppable, Drops}
-use Rattle.gnat_filing.specs.Seeking.{DroppableUnder, LiesUnder, IsFollowed, Sought, Seeks}
+use Rattle.gnat_filing.specs.Seeking.{LiesUnder, IsFollowed, Sought, Seeks}
 use Rattle.gnat_filing.proofs.Level.{child_lower, pivot_apart}
 use Rattle.gnat_filing.proofs.Under.{put_after, as_it_was}
 use Rattle.gnat_filing.proofs.Shrinking.{lies_absent, IsDropBranch, child_droppable, dropped_below}

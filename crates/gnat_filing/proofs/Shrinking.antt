@@ -24,13 +24,13 @@ use Rattle.gnat_rows.specs.declared.Leaf.{Leaf as LeafRecord}
 use Rattle.gnat_rows.specs.declared.Node.{Node}
 use Rattle.gnat_rows.specs.declared.Node.TheVariants as node
 use Rattle.gnat_rows.specs.declared.Row.{Row}
-use Rattle.gnat_rows.specs.Rows.{with_node, with_marked}
+use Rattle.gnat_rows.specs.Rows.{with_marked}
 use Rattle.gnat_rows.specs.Shows.{sample_in, pivot_in, HoldsSamples, Shows, ShowsParts}
 use Rattle.gnat_rows.specs.Lying.{Absent, Distinct, OnlyIn}
-use Rattle.gnat_rows.proofs.Apart.{distinct_left, distinct_across, distinct_shuffle, arranged, arranged_back}
+use Rattle.gnat_rows.proofs.Apart.{distinct_shuffle, arranged, arranged_back}
 use Rattle.gnat_rows.proofs.Changes.{nth_changed, nth_unchanged, same_row}
-use Rattle.gnat_rows.proofs.Only.{only_none, only_wider, only_then, only_node, only_marked}
-use Rattle.gnat_rows.proofs.Showing.{Same, frame, shows_leaf, shows_branch, Child, ChildIs, child_holding, of_child, replaced, parts_within, held_among, row_among}
+use Rattle.gnat_rows.proofs.Only.{only_none, only_wider, only_marked}
+use Rattle.gnat_rows.proofs.Showing.{Same, frame, shows_leaf, shows_branch, Child, ChildIs, child_holding, of_child, replaced, held_among, row_among}
 use Rattle.gnat_rows.specs.Trees.{height, height_parts}
 use Rattle.gnat_filing.specs.Dropping.{without_row, Shortened, Droppable, Drops}
 use Rattle.gnat_filing.specs.Seeking.{DropsUnder}

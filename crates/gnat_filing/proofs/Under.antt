@@ -8,7 +8,6 @@ use Rattle.gnat_theory.proofs.Shuffling.{all_shuffle, shuffle_back}
 use Rattle.gnat_rows.specs.declared.Node.{Node}
 use Rattle.gnat_rows.specs.declared.Row.{Row}
 use Rattle.gnat_rows.specs.Rows.{with_node}
-use Rattle.gnat_rows.specs.Shows.{Shows}
 use Rattle.gnat_rows.specs.Lying.{Absent, OnlyIn}
 use Rattle.gnat_rows.proofs.Changes.{nth_changed, nth_unchanged}
 use Rattle.gnat_rows.proofs.Only.{only_wider, only_then, only_node}

@@ -1,4 +1,4 @@
-use Rattle.std.proofs.Common.{sym, ap, subst, refl}
+use Rattle.std.proofs.Common.{subst}
 use Rattle.std.proofs.lemmas.Option.{slice_get_within}
 use Rattle.gnat_rows.proofs.Showing.{shows_leaf}
 use Rattle.gnat_filing.specs.Seeking.{Holds}

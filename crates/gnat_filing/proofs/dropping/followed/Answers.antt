@@ -1,4 +1,4 @@
-use Rattle.std.proofs.Common.{[], length, get_or, sym, ap, ◌∙◌, subst, arith}
+use Rattle.std.proofs.Common.{[], ap, ◌∙◌, arith}
 use Rattle.std.proofs.lemmas.List.{length-take}
 use Rattle.std.proofs.lemmas.Option.{slice_get_within}
 use Rattle.gnat_rows.proofs.Changes.{same_row}

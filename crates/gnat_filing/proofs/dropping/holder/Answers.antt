@@ -1,4 +1,4 @@
-use Rattle.std.proofs.Common.{get_or, ap, subst, sym, ◌∙◌, arith}
+use Rattle.std.proofs.Common.{get_or, subst, arith}
 use Rattle.std.proofs.lemmas.Option.{slice_get_within, slice_get-get_or}
 use Rattle.gnat_rows.proofs.Changes.{same_row}
 use Rattle.gnat_filing.specs.Dropping.{Droppable}

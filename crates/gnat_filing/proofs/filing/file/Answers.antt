@@ -1,4 +1,4 @@
-use Rattle.std.proofs.Common.{[], ◌∷◌, get_or, ap, ◌∙◌, subst, arith}
+use Rattle.std.proofs.Common.{[], ◌∷◌, ap, ◌∙◌, subst, arith}
 use Rattle.gnat_theory.specs.Splitting.{kept_or_split}
 use Rattle.gnat_rows.specs.Shows.{sample_in}
 use Rattle.gnat_rows.proofs.Changes.{nth_there, same_row}

@@ -1,4 +1,4 @@
-use Rattle.std.proofs.Common.{ℕ, ◌∷◌, get_or, sym, ap, ◌∙◌, arith}
+use Rattle.std.proofs.Common.{ℕ, ◌∷◌, sym, ap, ◌∙◌, arith}
 use Rattle.std.proofs.lemmas.Option.{slice_get_within}
 use Rattle.gnat_theory.specs.Splitting.{grown}
 use Rattle.gnat_theory.specs.Shuffles.{Shuffle}
@@ -33,7 +33,9 @@ put_node-requires g c =
     let p = c.requires in
     let own = nth_there c.args.rows.now c.args.at p.2.ready.within in
     let u = c.loop-l.invariant p.0 p.1 own.0 p.2 own.1 in
-    omega (arith, c.file_in_leaf-grown.auto.rows, slice_get_within c.loop-l.rows c.loop-l.pivot u.ready.row u.ready.there)
+    let first = slice_get_within c.args.rows.now c.args.root p.2.row p.2.there in
+    let last = slice_get_within c.loop-l.rows c.loop-l.pivot u.ready.row u.ready.there in
+    omega (arith, c.loop-l.auto.rows, c.file_in_leaf-grown.auto.rows, first, last)
 
 pub returns-in-Leaf : goal.returns-in-Leaf
 returns-in-Leaf g c =

@@ -1,6 +1,5 @@
-use Rattle.std.proofs.Common.{◌≡◌, [], ◌∷◌, ap, ◌∙◌, subst, arith}
+use Rattle.std.proofs.Common.{[], ◌∷◌, ap, ◌∙◌, subst, arith}
 use Rattle.std.proofs.lemmas.Option.{slice_get_within}
-use Rattle.gnat_rows.specs.declared.Node.TheVariants as node
 use Rattle.gnat_rows.proofs.Changes.{same_row}
 use Rattle.gnat_filing.specs.Widening.{Approaches}
 use Rattle.gnat_filing.proofs.Level.{is_branch, pivoted}
