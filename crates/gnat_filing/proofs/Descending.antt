@@ -16,17 +16,18 @@ use Rattle.gnat_rows.specs.Trees.{height, tree_of}
 use Rattle.gnat_rows.proofs.Trees.{shown_tree}
 use Rattle.gnat_rows.proofs.Changes.{length_changed}
 use Rattle.gnat_rows.proofs.Showing.{Child, frame_parts}
+use Rattle.gnat_filing.specs.Filed.{too_deep}
 use Rattle.gnat_filing.specs.Under.{ReadyUnder, Reached, Reaches, FilesUnder}
 use Rattle.gnat_filing.specs.Widening.{Approaches}
 use Rattle.gnat_filing.proofs.Level.{IsBranch, child_lower, nth_child, pivot_apart, child_ready, filed_below}
 use Rattle.gnat_filing.proofs.Under.{over, put_others, put_same, put_before}
 
-module _ {E : Type 0} (degree bucket : ℕ) (rows : List (Row E)) (n : Node) (at : ℕ) (t : Tree E) (fs : List ℕ) (b : BranchRecord) (i : IsBranch degree bucket 1025 rows n at t fs b) where
+module _ {E : Type 0} (degree bucket : ℕ) (rows : List (Row E)) (n : Node) (at : ℕ) (t : Tree E) (fs : List ℕ) (b : BranchRecord) (i : IsBranch degree bucket too_deep rows n at t fs b) where
   -- the child under a pivot of the branch
   module _ (j : ℕ) (c : Child rows b 0 j j i.parts fs) where
     pub under_child : ReadyUnder degree bucket rows (get_or b.pivots j 0) at c.tree c.below
     under_child =
-        let r = child_ready degree bucket 1025 rows n at t fs b i j c in
+        let r = child_ready degree bucket too_deep rows n at t fs b i j c in
         record {
           row = c.row;
           there = c.there;
@@ -36,7 +37,7 @@ module _ {E : Type 0} (degree bucket : ℕ) (rows : List (Row E)) (n : Node) (at
 
   -- a node is written to a row that is none of them
   module _ (pivot : ℕ) (m : Node) (rows₁ : List (Row E)) (apart : Absent pivot (at ∷ fs)) (put : rows₁ ≡ with_node pivot m rows) where
-    pub still_branch : IsBranch degree bucket 1025 rows₁ n at t fs b
+    pub still_branch : IsBranch degree bucket too_deep rows₁ n at t fs b
     still_branch =
         record {
           parts = i.parts;
@@ -69,8 +70,8 @@ module _ {E : Type 0} (degree bucket : ℕ) (rows : List (Row E)) (n : Node) (at
 
 -- the branch in a pivot's row is widened, and the sample goes on below its nearest pivot
 module _ {E : Type 0} (dist : E → E → ℕ) (degree bucket : ℕ) (rows rows₁ : List (Row E)) (pivot at : ℕ) (t : Tree E) (fs : List ℕ) (own : Row E) (r : ReadyUnder degree bucket rows pivot at t fs) (here : slice_get rows at ≡ Some own)
-    (b b' : BranchRecord) (i : IsBranch degree bucket 1025 rows r.row.node at t fs b) (j : ℕ) (near : Approaches dist rows own.element b b' j) (put : rows₁ ≡ with_node pivot (node.Branch b') rows) where
-  abbrev i₁ : IsBranch degree bucket 1025 rows₁ r.row.node at t fs b
+    (b b' : BranchRecord) (i : IsBranch degree bucket too_deep rows r.row.node at t fs b) (j : ℕ) (near : Approaches dist rows own.element b b' j) (put : rows₁ ≡ with_node pivot (node.Branch b') rows) where
+  abbrev i₁ : IsBranch degree bucket too_deep rows₁ r.row.node at t fs b
   i₁ = still_branch degree bucket rows r.row.node at t fs b i pivot (node.Branch b') rows₁ r.apart put
 
   abbrev child₁ : Child rows₁ b 0 j j i₁.parts fs
@@ -85,7 +86,7 @@ module _ {E : Type 0} (dist : E → E → ℕ) (degree bucket : ℕ) (rows rows�
         there = put_others pivot (node.Branch b') rows rows₁ put at r.apart.0 ∙ here;
         lower = child_lower i₁.parts t child₁.tree j i₁.tree child₁.is_child;
         left = λ later below. put_before pivot (node.Branch b') (λ lies. Shuffle ℕ lies (at ∷ fs)) rows rows₁ later (grown dist degree bucket (sample_in own) t) (at ∷ fs) r.row r.there r.apart put
-            (filed_below degree bucket 1025 rows₁ r.row.node at t fs b i₁ dist (kept_or_split dist degree bucket) later b' j (sample_in own) child₁
+            (filed_below degree bucket too_deep rows₁ r.row.node at t fs b i₁ dist (kept_or_split dist degree bucket) later b' j (sample_in own) child₁
             (still_near degree bucket rows r.row.node at t fs b i pivot (node.Branch b') rows₁ r.apart put dist own.element b' j near) below);
       }
 
@@ -111,11 +112,11 @@ module _ {E : Type 0} (dist : E → E → ℕ) (degree bucket : ℕ) (rows : Lis
 module _ {E : Type 0} (rows : List (Row E)) where
   abbrev levels_on : Option (Row E) → ℕ
   levels_on None = 0
-  levels_on (Some r) = height (tree_of 1025 rows r.node)
+  levels_on (Some r) = height (tree_of too_deep rows r.node)
 
   unfoldable pub levels_below : ℕ → ℕ
   levels_below i = levels_on (slice_get rows i)
 
-  pub levels_are : (pivot : ℕ) (row : Row E) (t : Tree E) (fs : List ℕ) → slice_get rows pivot ≡ Some row → Shows rows row.node t fs → height t < 1025 → levels_below pivot ≡ height t
+  pub levels_are : (pivot : ℕ) (row : Row E) (t : Tree E) (fs : List ℕ) → slice_get rows pivot ≡ Some row → Shows rows row.node t fs → height t < too_deep → levels_below pivot ≡ height t
   unfolding levels_below
-  levels_are pivot row t fs there shows deep = ap levels_on there ∙ ap height (shown_tree rows t 1025 row.node fs shows deep)
+  levels_are pivot row t fs there shows deep = ap levels_on there ∙ ap height (shown_tree rows t too_deep row.node fs shows deep)

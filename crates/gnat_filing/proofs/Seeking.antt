@@ -1,5 +1,5 @@
 -- The way down to the node that holds a sample: to drop it there is to drop it from the root. Assumes nothing.
-use Rattle.std.proofs.Common.{◌≡◌, ℕ, Bool, cond, List, [], ◌∷◌, get_or, Some, sym, subst, arith}
+use Rattle.std.proofs.Common.{◌≡◌, ℕ, Bool, cond, List, [], ◌∷◌, get_or, Some, sym, subst}
 use Rattle.std.specs.List.{slice_get}
 use Rattle.hits.specs.Samples.{Among}
 use Rattle.gnat_theory.specs.Tree.{Tree}
@@ -19,21 +19,20 @@ use Rattle.gnat_filing.proofs.Under.{put_after, as_it_was}
 use Rattle.gnat_filing.proofs.Shrinking.{lies_absent, IsDropBranch, child_droppable, dropped_below}
 
 -- the child of a branch that has the row
-pub lies_under : {E : Type 0} (dist : E → E → ℕ) (degree : ℕ) (rows : List (Row E)) (n : Node) (at : ℕ) (t : Tree E) (fs : List ℕ) (own : Row E) (d : Droppable dist degree 1025 rows n at t fs own) (b : BranchRecord) → n ≡ node.Branch b → (i : IsDropBranch dist degree 1025 rows n at t fs own d b) (j : ℕ) (c : Child rows b 0 j j i.parts fs) → Among at c.below
+pub lies_under : {E : Type 0} (dist : E → E → ℕ) (degree : ℕ) (rows : List (Row E)) (n : Node) (at : ℕ) (t : Tree E) (fs : List ℕ) (own : Row E) (d : Droppable dist degree rows n at t fs own) (b : BranchRecord) → n ≡ node.Branch b → (i : IsDropBranch dist degree rows n at t fs own d b) (j : ℕ) (c : Child rows b 0 j j i.parts fs) → Among at c.below
     → LiesUnder dist degree rows n (get_or b.pivots j 0) at t fs own
 lies_under dist degree rows n at t fs own d b e i j c mine =
-    let r = child_droppable dist degree 1025 rows n at t fs own d b i j c mine in
     record {
       tree = c.tree;
       lies = c.below;
       ready = record {
         row = c.row;
         there = c.there;
-        ready = record { shows = r.shows; apart = r.apart; there = r.there; lies = r.lies; stands = r.stands; deep = omega (arith, r.deep); some = r.some; branching = r.branching; placed = r.placed; numbers = r.numbers };
+        ready = child_droppable dist degree rows n at t fs own d b i j c mine;
         apart = pivot_apart rows b [] i.parts fs i.ready j c;
       };
       lower = child_lower i.parts t c.tree j i.tree c.is_child;
-      left = λ later freed given. subst (λ z. Drops rows later z freed at (shrunk own.number t) fs) (sym e) (dropped_below dist degree 1025 rows n at t fs own d b i j c mine later freed given);
+      left = λ later freed given. subst (λ z. Drops rows later z freed at (shrunk own.number t) fs) (sym e) (dropped_below dist degree rows n at t fs own d b i j c mine later freed given);
     }
 
 module _ {E : Type 0} (dist : E → E → ℕ) (rows : List (Row E)) (root at : ℕ) where
@@ -45,7 +44,7 @@ module _ {E : Type 0} (dist : E → E → ℕ) (rows : List (Row E)) (root at : 
   seeks_on pivot row next there so_far more degree t fs own d =
       let u = so_far degree t fs own d in
       let same = same_row rows pivot u.ready.row row u.ready.there there in
-      let v = more degree u.tree u.lies own (subst (λ z. Droppable dist degree 1025 rows z.node at u.tree u.lies own) same u.ready.ready) in
+      let v = more degree u.tree u.lies own (subst (λ z. Droppable dist degree rows z.node at u.tree u.lies own) same u.ready.ready) in
       record {
         tree = v.tree;
         lies = v.lies;

@@ -1,5 +1,5 @@
 -- Dropping the sample of a row: out of its leaf, marked as a pivot, or below the nearest pivot. Assumes nothing.
-use Rattle.std.proofs.Common.{◌≡◌, ℕ, zero, suc, ◌+◌, ◌-◌, ◌<◌, Bool, true, false, cond, not, eqb, List, [], ◌∷◌, ◌++◌, length, get_or, take, Some, sym, refl, ap, ◌∙◌, subst, inl, inr, ⊎_elim, arith}
+use Rattle.std.proofs.Common.{◌≡◌, ℕ, zero, suc, ◌+◌, ◌<◌, Bool, true, false, cond, not, eqb, List, [], ◌∷◌, ◌++◌, length, get_or, take, Some, sym, refl, ap, ◌∙◌, subst, inl, inr, ⊎_elim, arith}
 use Rattle.std.specs.List.{slice_get, AllByRecursion}
 use Rattle.std.proofs.ByRecursion.{All-weaker}
 use Rattle.std.proofs.lemmas.List.{append_assoc}
@@ -31,11 +31,10 @@ use Rattle.gnat_rows.proofs.Apart.{distinct_shuffle, arranged, arranged_back}
 use Rattle.gnat_rows.proofs.Changes.{nth_changed, nth_unchanged, same_row}
 use Rattle.gnat_rows.proofs.Only.{only_none, only_wider, only_marked}
 use Rattle.gnat_rows.proofs.Showing.{Same, frame, shows_leaf, shows_branch, Child, ChildIs, child_holding, of_child, replaced, held_among, row_among}
-use Rattle.gnat_rows.specs.Trees.{height, height_parts}
 use Rattle.gnat_filing.specs.Dropping.{without_row, Shortened, Droppable, Drops}
 use Rattle.gnat_filing.specs.Seeking.{DropsUnder}
 use Rattle.gnat_filing.specs.Widening.{Measured}
-use Rattle.gnat_filing.proofs.Level.{ReadyBranch, nth_child, distances_are, below_apart, level, replaced_length}
+use Rattle.gnat_filing.proofs.Level.{ReadyBranch, nth_child, distances_are, below_apart, level, replaced_length, child_lower}
 
 without_absent : (at : ℕ) (is : List ℕ) → Absent at is → without_row at is ≡ is
 without_absent at [] a = refl
@@ -228,12 +227,11 @@ module _ {E : Type 0} (dist : E → E → ℕ) (all : List (Sample E)) where
       let w = nearest_here (suc k) n rest t i h.2 in
       (subst (λ z. AllByRecursion (λ s. nearest (distances dist all s) ≡ z) (members t)) up w.0, w.1)
 
-module _ {E : Type 0} (dist : E → E → ℕ) (degree left : ℕ) (rows : List (Row E)) (n : Node) (at : ℕ) (t : Tree E) (fs : List ℕ) (row : Row E) (d : Droppable dist degree left rows n at t fs row) where
+module _ {E : Type 0} (dist : E → E → ℕ) (degree : ℕ) (rows : List (Row E)) (n : Node) (at : ℕ) (t : Tree E) (fs : List ℕ) (row : Row E) (d : Droppable dist degree rows n at t fs row) where
   pub record IsDropBranch (b : BranchRecord) : Type 0 where
     pub parts : Parts E
     pub tree : t ≡ branch parts
     pub ready : ReadyBranch rows b [] parts fs
-    pub deep : suc (height_parts parts) < left
     pub branching : BranchingParts degree parts
     pub placed : ThroughoutParts (OwnNearest dist) (pivots parts) 0 parts
     pub numbers : Apart (gathered_parts if_standing parts)
@@ -248,7 +246,6 @@ module _ {E : Type 0} (dist : E → E → ℕ) (degree left : ℕ) (rows : List 
         parts = s.0;
         tree = s.1;
         ready = record { parts = s.4; count = s.2; most = s.3; some = omega (arith, s.2, branching.0, d.some); apart = d.apart };
-        deep = subst (λ z. height z < left) s.1 d.deep;
         branching = branching.1;
         placed = subst (Placed dist) s.1 d.placed;
         numbers = apart_sub (gathered_parts if_standing s.0) (gathered_parts always s.0) (standing_parts_sub s.0) (subst (λ z. Apart (members z)) s.1 d.numbers);
@@ -309,7 +306,7 @@ module _ {E : Type 0} (dist : E → E → ℕ) (degree left : ℕ) (rows : List 
       below_stands : Among (sample_in row) (standing c.tree)
       below_stands = stands_below (sample_in row) j i.parts c.tree c.is_child i.all_numbers i.stands (row_among rows always at row d.there (inl refl) c.row.node c.tree c.below mine c.shows)
 
-      pub child_droppable : Droppable dist degree (left - 1) rows c.row.node at c.tree c.below row
+      pub child_droppable : Droppable dist degree rows c.row.node at c.tree c.below row
       child_droppable =
           let ps = i.parts in
           record {
@@ -318,7 +315,7 @@ module _ {E : Type 0} (dist : E → E → ℕ) (degree left : ℕ) (rows : List 
             there = d.there;
             lies = mine;
             stands = below_stands;
-            deep = of_child (λ u. height u < left - 1) (λ qs. height_parts qs < left - 1) (λ p col u rest h. (omega arith, omega arith)) j ps c.tree c.is_child (omega (arith, i.deep));
+            deep = omega (arith, d.deep, child_lower ps t c.tree j i.tree c.is_child);
             some = d.some;
             branching = of_child (Branching degree) (BranchingParts degree) (λ p col u rest h. h) j ps c.tree c.is_child i.branching;
             placed = (nearest_here dist (pivots ps) 0 j ps c.tree c.is_child i.placed).1;

@@ -28,7 +28,7 @@ module _ {E : Type 0} (dist : E → E → ℕ) where
   pub record DroppableUnder (degree : ℕ) (rows : List (Row E)) (pivot at : ℕ) (t : Tree E) (fs : List ℕ) (own : Row E) : Type 0 where
     pub row : Row E
     pub there : slice_get rows pivot ≡ Some row
-    pub ready : Droppable dist degree 1025 rows row.node at t fs own
+    pub ready : Droppable dist degree rows row.node at t fs own
     pub apart : Absent pivot fs
 
   abbrev pub SomeDroppableUnder : List (Row E) → ℕ → ℕ → Type 0
@@ -45,7 +45,7 @@ module _ {E : Type 0} (dist : E → E → ℕ) where
   -- the node holds the sample, or it lies under this pivot
   abbrev pub IsFollowed : List (Row E) → Node → ℕ → Option ℕ → Type 0
   IsFollowed rows n at None = Holds at n
-  IsFollowed rows n at (Some pivot) = (degree : ℕ) (t : Tree E) (fs : List ℕ) (own : Row E) → Droppable dist degree 1025 rows n at t fs own → LiesUnder degree rows n pivot at t fs own
+  IsFollowed rows n at (Some pivot) = (degree : ℕ) (t : Tree E) (fs : List ℕ) (own : Row E) → Droppable dist degree rows n at t fs own → LiesUnder degree rows n pivot at t fs own
 
   -- from one pivot's row to another below it: to drop the sample there is all that is left to do
   pub record Sought (degree : ℕ) (rows : List (Row E)) (pivot pivot' at : ℕ) (t : Tree E) (fs : List ℕ) (own : Row E) : Type 0 where

@@ -43,9 +43,9 @@ fn is_pivot(b: &Branch, at: u16) -> bool
 
 // Drops the sample of the row `at` from the node that holds it: it leaves its leaf, or is marked where it is a pivot.
 fn drop_held<E: Metric>(rows: &mut [Row<E>], node: Node, at: u16) -> Dropped
-    requires some { SomeDroppable E.dist 1025 rows.old node at }
+    requires some { SomeDroppable E.dist rows.old node at }
     requires held { Holds at node }
-    ensures { DropsFrom E.dist 1025 rows.old rows.new node result.node result.freed at }
+    ensures { DropsFrom E.dist rows.old rows.new node result.node result.freed at }
 {
     match node {
         Node::Leaf(l) => Dropped {
@@ -64,7 +64,7 @@ fn drop_held<E: Metric>(rows: &mut [Row<E>], node: Node, at: u16) -> Dropped
 
 // The row of the pivot under which the sample of the row `at` lies, or none where the node itself holds it.
 fn followed<E: Metric>(rows: &[Row<E>], node: &Node, at: u16) -> Option<u16>
-    requires { SomeDroppable E.dist 1025 rows.now node.now at }
+    requires { SomeDroppable E.dist rows.now node.now at }
     ensures { IsFollowed E.dist rows.now node.now at result }
 {
     match node {
@@ -97,8 +97,8 @@ fn holder<E: Metric>(rows: &[Row<E>], root: u16, at: u16) -> u16
 // Drops the sample of the row `at` from below a node that is in no row, and tells what the node becomes: no branch on the
 // way is changed.
 pub fn take_out<E: Metric>(rows: &mut [Row<E>], node: Node, at: u16) -> Dropped
-    requires { SomeDroppable E.dist 1025 rows.old node at }
-    ensures { DropsFrom E.dist 1025 rows.old rows.new node result.node result.freed at }
+    requires { SomeDroppable E.dist rows.old node at }
+    ensures { DropsFrom E.dist rows.old rows.new node result.node result.freed at }
 {
     match followed(rows, &node, at) {
         None => drop_held(rows, node, at),

@@ -56,8 +56,8 @@ fn file_under<E: Metric>(rows: &mut [Row<E>], root: u16, at: u16, settings: Sett
 
 // Files the sample of the row `at` below a node that is in no row, and returns what the node becomes.
 pub fn file<E: Metric>(rows: &mut [Row<E>], node: Node, at: u16, settings: Settings) -> Node
-    requires { Fileable settings.degree settings.bucket 1025 rows.old node at }
-    ensures { FilesIn E.dist settings.degree settings.bucket 1025 rows.old rows.new node result at }
+    requires { Fileable settings.degree settings.bucket rows.old node at }
+    ensures { FilesIn E.dist settings.degree settings.bucket rows.old rows.new node result at }
 {
     match node {
         Node::Leaf(l) => file_in_leaf(rows, l, at, settings),

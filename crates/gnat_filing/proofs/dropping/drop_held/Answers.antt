@@ -19,6 +19,6 @@ returns-in-Branch g c degree t fs own d =
     let dist = g.E.Metric.dist in
     let rows = c.args.rows.now in
     let b = c.in-Branch.b in
-    let i = is_drop_branch dist degree 1025 rows c.args.node c.args.at t fs own d b c.in-Branch.is in
+    let i = is_drop_branch dist degree rows c.args.node c.args.at t fs own d b c.in-Branch.is in
     let k = subst (Holds c.args.at) c.in-Branch.is c.requires.held in
-    pivot_marked dist degree 1025 rows c.args.node c.args.at t fs own d b i c.put_marked.new.rows k.0 k.1 k.2 c.put_marked.ensures
+    pivot_marked dist degree rows c.args.node c.args.at t fs own d b i c.put_marked.new.rows k.0 k.1 k.2 c.put_marked.ensures

@@ -30,7 +30,7 @@ followed-requires g c =
     let d = c.index-rows-pivot.result in
     let here = slice_get-get_or rows pivot d (slice_get_within rows pivot u.ready.row u.ready.there) in
     let same = same_row rows pivot u.ready.row (get_or rows pivot d) u.ready.there here in
-    (p.0, u.tree, u.lies, p.3, subst (λ z. Droppable g.E.Metric.dist p.0 1025 rows z.node c.args.at u.tree u.lies p.3) same u.ready.ready)
+    (p.0, u.tree, u.lies, p.3, subst (λ z. Droppable g.E.Metric.dist p.0 rows z.node c.args.at u.tree u.lies p.3) same u.ready.ready)
 
 pub loop-next-smaller : goal.loop-next-smaller
 loop-next-smaller g c =
@@ -41,7 +41,7 @@ loop-next-smaller g c =
     let d = c.index-rows-pivot.result in
     let here = slice_get-get_or rows pivot d (slice_get_within rows pivot u.ready.row u.ready.there) in
     let same = same_row rows pivot u.ready.row (get_or rows pivot d) u.ready.there here in
-    let v = c.in-Some.ensures p.0 u.tree u.lies p.3 (subst (λ z. Droppable g.E.Metric.dist p.0 1025 rows z.node c.args.at u.tree u.lies p.3) same u.ready.ready) in
+    let v = c.in-Some.ensures p.0 u.tree u.lies p.3 (subst (λ z. Droppable g.E.Metric.dist p.0 rows z.node c.args.at u.tree u.lies p.3) same u.ready.ready) in
     let before = levels_are rows pivot u.ready.row u.tree u.lies u.ready.there u.ready.ready.shows u.ready.ready.deep in
     let after = levels_are rows c.in-Some.next v.ready.row v.tree v.lies v.ready.there v.ready.ready.shows v.ready.ready.deep in
     omega (arith, v.lower, before, after)

@@ -23,7 +23,7 @@ drop_held-dropped-requires-clause-some g c =
     let v = c.holder-pivot.ensures.seeks p.0 u.tree u.lies p.3 u.ready in
     let read = c.node_in-held.ensures in
     let same = ap (λ z. z.node) (same_row rows c.holder-pivot.result v.ready.row read.0 v.ready.there read.1) ∙ sym read.2 in
-    (p.0, v.tree, v.lies, p.3, subst (λ z. Droppable g.E.Metric.dist p.0 1025 rows z c.args.at v.tree v.lies p.3) same v.ready.ready)
+    (p.0, v.tree, v.lies, p.3, subst (λ z. Droppable g.E.Metric.dist p.0 rows z c.args.at v.tree v.lies p.3) same v.ready.ready)
 
 pub drop_held-dropped-requires-clause-held : goal.drop_held-dropped-requires-clause-held
 drop_held-dropped-requires-clause-held g c =
@@ -45,5 +45,5 @@ returns-in-Some g c degree t fs own d =
     let v = c.holder-pivot.ensures.seeks degree u.tree u.lies own u.ready in
     let read = c.node_in-held.ensures in
     let same = ap (λ z. z.node) (same_row rows c.holder-pivot.result v.ready.row read.0 v.ready.there read.1) ∙ sym read.2 in
-    let made = c.drop_held-dropped.ensures degree v.tree v.lies own (subst (λ z. Droppable dist degree 1025 rows z at v.tree v.lies own) same v.ready.ready) in
+    let made = c.drop_held-dropped.ensures degree v.tree v.lies own (subst (λ z. Droppable dist degree rows z at v.tree v.lies own) same v.ready.ready) in
     dropped_there dist degree rows c.drop_held-dropped.new.rows c.put_node.new.rows c.args.node c.drop_held-dropped.result.node c.in-Some.root c.holder-pivot.result at t fs own c.drop_held-dropped.result.freed u v made c.put_node.ensures

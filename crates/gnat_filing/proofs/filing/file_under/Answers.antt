@@ -4,6 +4,7 @@ use Rattle.gnat_theory.specs.Splitting.{grown}
 use Rattle.gnat_theory.specs.Shuffles.{Shuffle}
 use Rattle.gnat_rows.specs.Shows.{sample_in}
 use Rattle.gnat_rows.proofs.Changes.{nth_there, same_row}
+use Rattle.gnat_filing.specs.Filed.{too_deep}
 use Rattle.gnat_filing.proofs.Leaving.{is_leaf, leaf_filed}
 use Rattle.gnat_filing.proofs.Under.{still_absent, put_after}
 use Rattle.gnat_filing.proofs.Descending.{reaches_itself, reaches_on, reaches_end, levels_are}
@@ -26,7 +27,7 @@ file_in_leaf-grown-requires g c =
     let u = c.loop-l.invariant p.0 p.1 own.0 p.2 own.1 in
     let read = c.node_in.ensures in
     let same = ap (λ z. z.node) (same_row c.loop-l.rows c.loop-l.pivot u.ready.row read.0 u.ready.there read.1) ∙ (sym read.2 ∙ c.in-Leaf.is) in
-    (_, (is_leaf c.args.settings.degree c.args.settings.bucket 1025 c.loop-l.rows u.ready.row.node c.args.at u.tree u.lies own.0 c.in-Leaf.l same u.there u.ready.ready).ready)
+    (_, (is_leaf c.args.settings.degree c.args.settings.bucket too_deep c.loop-l.rows u.ready.row.node c.args.at u.tree u.lies own.0 c.in-Leaf.l same u.there u.ready.ready).ready)
 
 pub put_node-requires : goal.put_node-requires
 put_node-requires g c =
@@ -50,7 +51,7 @@ returns-in-Leaf g c =
     reaches_end dist degree bucket c.args.rows.now c.args.root at rows pivot c.loop-l.invariant c.put_node.new.rows
     (λ t fs row r there.
     let same = ap (λ z. z.node) (same_row rows pivot r.row read.0 r.there read.1) ∙ (sym read.2 ∙ c.in-Leaf.is) in
-    let filed = leaf_filed degree bucket 1025 rows r.row.node at t fs row c.in-Leaf.l same there r.ready dist c.file_in_leaf-grown.new.rows grown_node c.file_in_leaf-grown.ensures in
+    let filed = leaf_filed degree bucket too_deep rows r.row.node at t fs row c.in-Leaf.l same there r.ready dist c.file_in_leaf-grown.new.rows grown_node c.file_in_leaf-grown.ensures in
     put_after pivot grown_node (λ lies. Shuffle ℕ lies (at ∷ fs)) rows c.file_in_leaf-grown.new.rows c.put_node.new.rows (grown dist degree bucket (sample_in row) t) (at ∷ fs) r.row r.there r.apart (λ lies s. still_absent pivot (at ∷ fs) lies r.apart s) filed c.put_node.ensures)
 
 pub widen_below-pivot-requires-clause-branch : goal.widen_below-pivot-requires-clause-branch
