@@ -44,11 +44,11 @@ module _ {E : Type 0} (dist : E → E → ℕ) (g : State E) (o : LaidOut dist g
         subst (λ i. Ready g.settings.degree g.settings.bucket 1025 new g.root i o.tree o.lies) (sym is_row)
         (subst (λ z. Ready g.settings.degree g.settings.bucket 1025 z g.root row o.tree o.lies) (sym is_new) with_it_ready)
 
-    module _ (later : List (Row E)) (root : Node) (files : FilesIn dist g.settings.degree g.settings.bucket 1025 new later g.root root at) (as_long : length later ≡ length new) where
+    module _ (later : List (Row E)) (root : Node) (files : FilesIn dist g.settings.degree g.settings.bucket new later g.root root at) (as_long : length later ≡ length new) where
       left : LeavesTree with_it later root (grown dist g.settings.degree g.settings.bucket sample o.tree) (row ∷ o.lies)
       left =
           let there = prepared_row dist g o roomy number e in
-          let filed = subst (λ i. FilesIn dist g.settings.degree g.settings.bucket 1025 with_it later g.root root i) is_row (subst (λ z. FilesIn dist g.settings.degree g.settings.bucket 1025 z later g.root root at) is_new files) in
+          let filed = subst (λ i. FilesIn dist g.settings.degree g.settings.bucket with_it later g.root root i) is_row (subst (λ z. FilesIn dist g.settings.degree g.settings.bucket z later g.root root at) is_new files) in
           subst (λ s. LeavesTree with_it later root (grown dist g.settings.degree g.settings.bucket s o.tree) (row ∷ o.lies)) there.2 (filed o.tree o.lies there.0 with_it_ready there.1)
 
       long : length later ≡ length with_it

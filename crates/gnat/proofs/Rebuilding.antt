@@ -128,10 +128,10 @@ module _ {E : Type 0} (dist : E → E → ℕ) (degree bucket : ℕ) (rows : Lis
   pub may_file : (at : ℕ) → at ≡ get_or order j 0 → Ready degree bucket 1025 new root at (rebuilt dist degree bucket (samples_at rows (take j order))) f.lies
   may_file at same = subst (λ i. Ready degree bucket 1025 new root i (rebuilt dist degree bucket (samples_at rows (take j order))) f.lies) (sym same) next_ready
 
-  pub has_filed : (at : ℕ) → at ≡ get_or order j 0 → (later : List (Row E)) (after_it : Node) → FilesIn dist degree bucket 1025 new later root after_it at → length later ≡ length new → Refiled dist degree bucket rows order (suc j) later after_it
+  pub has_filed : (at : ℕ) → at ≡ get_or order j 0 → (later : List (Row E)) (after_it : Node) → FilesIn dist degree bucket new later root after_it at → length later ≡ length new → Refiled dist degree bucket rows order (suc j) later after_it
   has_filed at same later after_it files as_long =
       let r = nth_there new (get_or order j 0) next_ready.within in
-      let l = subst (λ i. FilesIn dist degree bucket 1025 new later root after_it i) same files _ f.lies r.0 next_ready r.1 in
+      let l = subst (λ i. FilesIn dist degree bucket new later root after_it i) same files _ f.lies r.0 next_ready r.1 in
       refiled_more dist degree bucket rows order within j (omega (arith, all_listed)) new later root after_it f r.0 r.1 l.lies l.shows l.same_rows l.only as_long
 
 rising_at_most : {E : Type 0} (most low high : ℕ) (xs : List (Sample E)) → high ≤ most → Rising low high xs → AllByRecursion (λ x. x.number ≤ most) xs

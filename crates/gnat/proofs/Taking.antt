@@ -79,7 +79,7 @@ module _ {E : Type 0} (dist : E → E → ℕ) (g : State E) (o : LaidOut dist g
     it_stands : Among (sample_in r) (standing o.tree)
     it_stands = among_shuffle (sample_in r) (standing_in g) (standing o.tree) (shuffle_back _ _ o.files.stands) it_is_listed
 
-    pub may_take : Droppable dist g.settings.degree 1025 old g.root row o.tree o.lies r
+    pub may_take : Droppable dist g.settings.degree old g.root row o.tree o.lies r
     may_take = record {
       shows = o.shows;
       apart = in_tree_distinct dist g o at inside o.lies;

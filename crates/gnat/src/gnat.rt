@@ -96,7 +96,7 @@ impl<'a, E: Metric> Gnat<'a, E> {
         let number = self.last + 1;
         let rows = &mut *self.rows;
         let at = enlist(rows, self.standing, in_use, number, e);
-        self.root = file(rows, self.root, at, self.settings, 1025);
+        self.root = file(rows, self.root, at, self.settings);
         self.standing += 1;
         self.last = number;
     }
@@ -108,7 +108,7 @@ impl<'a, E: Metric> Gnat<'a, E> {
     {
         let row = self.row_at(at);
         let rows = &mut *self.rows;
-        let dropped = take_out(rows, self.root, row, 1025);
+        let dropped = take_out(rows, self.root, row);
         self.marked = unlist(rows, at, self.standing, self.marked, dropped.freed);
         self.root = dropped.node;
         self.standing -= 1;

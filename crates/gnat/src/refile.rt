@@ -22,7 +22,7 @@ pub(crate) fn refile<E: Metric>(rows: &mut [Row<E>], standing: usize, settings: 
     // By place: the order lies in the rows that `file` writes to.
     for i in 0..standing {
         let at = place_in(rows, i);
-        root = file(rows, root, at, settings, 1025);
+        root = file(rows, root, at, settings);
     }
     root
 }

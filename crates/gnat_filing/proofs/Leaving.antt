@@ -6,7 +6,7 @@ use Rattle.std.proofs.lemmas.Bool.{le-leb, lt-leb, cond-true, cond-false}
 use Rattle.hits.specs.Samples.{Sample}
 use Rattle.gnat_theory.specs.Tree.{Tree}
 use Rattle.gnat_theory.specs.Tree.Tree.{leaf}
-use Rattle.gnat_theory.specs.Splitting.{split, kept_or_split}
+use Rattle.gnat_theory.specs.Splitting.{split, kept_or_split, grown}
 use Rattle.gnat_theory.specs.Shapes.{Leaves}
 use Rattle.gnat_theory.specs.Shuffles.{Shuffle}
 use Rattle.gnat_theory.proofs.Shuffling.{shuffle_front}
@@ -18,7 +18,7 @@ use Rattle.gnat_rows.specs.Shows.{sample_in, held, HoldsSamples}
 use Rattle.gnat_rows.specs.Lying.{Distinct}
 use Rattle.gnat_rows.proofs.Showing.{shows_leaf, holds_length, holds_append}
 use Rattle.gnat_rows.proofs.Only.{only_none}
-use Rattle.gnat_filing.specs.Filed.{Ready, ReadyLeaf, LeavesTree}
+use Rattle.gnat_filing.specs.Filed.{Ready, ReadyLeaf, LeavesTree, Becomes}
 use Rattle.gnat_filing.specs.Leaf.{Pushed}
 
 pub end_to_front : (fs : List ℕ) (i : ℕ) → Shuffle ℕ (fs ++ (i ∷ [])) (i ∷ fs)
@@ -75,3 +75,12 @@ module _ {E : Type 0} (degree bucket left : ℕ) (rows : List (Row E)) (n : Node
           holds = subst (λ z. HoldsSamples rows (z ++ (at ∷ [])) (s.0 ++ (sample_in row ∷ []))) (sym s.4) (holds_append rows fs (at ∷ []) s.0 (sample_in row ∷ []) s.5 (row, there, refl, tt));
         };
       }
+
+  -- the tree of a leaf with one more row
+  pub leaf_filed : (l : LeafRecord) (e : n ≡ node.Leaf l) (there : slice_get rows at ≡ Some row) (r : Ready degree bucket left rows n at t fs) (dist : E → E → ℕ) (rows' : List (Row E)) (n' : Node) → Becomes (kept_or_split dist degree bucket) bucket rows rows' l n' at
+      → LeavesTree rows rows' n' (grown dist degree bucket (sample_in row) t) (at ∷ fs)
+  leaf_filed l e there r dist rows' n' becomes =
+      let i = is_leaf l e there r in
+      let xs = i.samples ++ (sample_in row ∷ []) in
+      subst (λ z. LeavesTree rows rows' n' (grown dist degree bucket (sample_in row) z) (at ∷ fs)) (sym i.tree)
+      (subst (λ z. LeavesTree rows rows' n' (kept_or_split dist degree bucket xs) (at ∷ z)) i.lies (becomes xs i.ready))

@@ -1,9 +1,12 @@
 pub mod Loops
 pub mod Leaving
+pub mod Under
 pub mod Level
+pub mod Descending
 pub mod Choices
 pub mod Candidates
 pub mod Clearing
 pub mod Filling
 pub mod Assembling
 pub mod Shrinking
+pub mod Seeking

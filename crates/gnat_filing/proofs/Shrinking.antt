@@ -1,5 +1,5 @@
 -- Dropping the sample of a row: out of its leaf, marked as a pivot, or below the nearest pivot. Assumes nothing.
-use Rattle.std.proofs.Common.{◌≡◌, ℕ, zero, suc, ◌+◌, ◌-◌, ◌<◌, Bool, true, false, cond, not, eqb, List, [], ◌∷◌, ◌++◌, length, get_or, take, Some, sym, refl, ap, ◌∙◌, subst, inl, inr, ⊎_elim, arith}
+use Rattle.std.proofs.Common.{◌≡◌, ℕ, zero, suc, ◌+◌, ◌<◌, Bool, true, false, cond, not, eqb, List, [], ◌∷◌, ◌++◌, length, get_or, take, Some, sym, refl, ap, ◌∙◌, subst, inl, inr, ⊎_elim, arith}
 use Rattle.std.specs.List.{slice_get, AllByRecursion}
 use Rattle.std.proofs.ByRecursion.{All-weaker}
 use Rattle.std.proofs.lemmas.List.{append_assoc}
@@ -24,17 +24,17 @@ use Rattle.gnat_rows.specs.declared.Leaf.{Leaf as LeafRecord}
 use Rattle.gnat_rows.specs.declared.Node.{Node}
 use Rattle.gnat_rows.specs.declared.Node.TheVariants as node
 use Rattle.gnat_rows.specs.declared.Row.{Row}
-use Rattle.gnat_rows.specs.Rows.{with_node, with_marked}
+use Rattle.gnat_rows.specs.Rows.{with_marked}
 use Rattle.gnat_rows.specs.Shows.{sample_in, pivot_in, HoldsSamples, Shows, ShowsParts}
 use Rattle.gnat_rows.specs.Lying.{Absent, Distinct, OnlyIn}
-use Rattle.gnat_rows.proofs.Apart.{distinct_left, distinct_across, distinct_shuffle, arranged, arranged_back}
+use Rattle.gnat_rows.proofs.Apart.{distinct_shuffle, arranged, arranged_back}
 use Rattle.gnat_rows.proofs.Changes.{nth_changed, nth_unchanged, same_row}
-use Rattle.gnat_rows.proofs.Only.{only_none, only_wider, only_then, only_node, only_marked}
-use Rattle.gnat_rows.proofs.Showing.{Same, frame, shows_leaf, shows_branch, Child, ChildIs, child_holding, of_child, replaced, parts_within, held_among, row_among}
-use Rattle.gnat_rows.specs.Trees.{height, height_parts}
+use Rattle.gnat_rows.proofs.Only.{only_none, only_wider, only_marked}
+use Rattle.gnat_rows.proofs.Showing.{Same, frame, shows_leaf, shows_branch, Child, ChildIs, child_holding, of_child, replaced, held_among, row_among}
 use Rattle.gnat_filing.specs.Dropping.{without_row, Shortened, Droppable, Drops}
+use Rattle.gnat_filing.specs.Seeking.{DropsUnder}
 use Rattle.gnat_filing.specs.Widening.{Measured}
-use Rattle.gnat_filing.proofs.Level.{ReadyBranch, nth_child, distances_are, replaced_length}
+use Rattle.gnat_filing.proofs.Level.{ReadyBranch, nth_child, distances_are, below_apart, level, replaced_length, child_lower}
 
 without_absent : (at : ℕ) (is : List ℕ) → Absent at is → without_row at is ≡ is
 without_absent at [] a = refl
@@ -93,7 +93,7 @@ module _ {E : Type 0} (rows : List (Row E)) (at : ℕ) (row : Row E) (there : sl
       })
 
 -- what is none of the rows before is none of those after
-lies_absent : (freed : Bool) (at : ℕ) (lies below : List ℕ) → Shuffle ℕ (cond freed (at ∷ lies) lies) below → (i : ℕ) → Absent i below → Absent i lies
+pub lies_absent : (freed : Bool) (at : ℕ) (lies below : List ℕ) → Shuffle ℕ (cond freed (at ∷ lies) lies) below → (i : ℕ) → Absent i below → Absent i lies
 lies_absent true at lies below s i a = (all_shuffle (λ k. i ≡ k → ⊥) below (at ∷ lies) (shuffle_back (at ∷ lies) below s) a).1
 lies_absent false at lies below s i a = all_shuffle (λ k. i ≡ k → ⊥) below lies (shuffle_back lies below s) a
 
@@ -227,12 +227,11 @@ module _ {E : Type 0} (dist : E → E → ℕ) (all : List (Sample E)) where
       let w = nearest_here (suc k) n rest t i h.2 in
       (subst (λ z. AllByRecursion (λ s. nearest (distances dist all s) ≡ z) (members t)) up w.0, w.1)
 
-module _ {E : Type 0} (dist : E → E → ℕ) (degree left : ℕ) (rows : List (Row E)) (n : Node) (at : ℕ) (t : Tree E) (fs : List ℕ) (row : Row E) (d : Droppable dist degree left rows n at t fs row) where
+module _ {E : Type 0} (dist : E → E → ℕ) (degree : ℕ) (rows : List (Row E)) (n : Node) (at : ℕ) (t : Tree E) (fs : List ℕ) (row : Row E) (d : Droppable dist degree rows n at t fs row) where
   pub record IsDropBranch (b : BranchRecord) : Type 0 where
     pub parts : Parts E
     pub tree : t ≡ branch parts
-    pub ready : ReadyBranch rows b (length rows) parts fs
-    pub deep : suc (height_parts parts) < left
+    pub ready : ReadyBranch rows b [] parts fs
     pub branching : BranchingParts degree parts
     pub placed : ThroughoutParts (OwnNearest dist) (pivots parts) 0 parts
     pub numbers : Apart (gathered_parts if_standing parts)
@@ -243,12 +242,10 @@ module _ {E : Type 0} (dist : E → E → ℕ) (degree left : ℕ) (rows : List 
   is_drop_branch b e =
       let s = shows_branch rows n b t fs e d.shows in
       let branching = subst (Branching degree) s.1 d.branching in
-      let beyond : Absent (length rows) fs = All-weaker (λ i. i < length rows) (λ i. length rows ≡ i → ⊥) (λ i l q. omega arith) fs (parts_within rows b 0 s.0 fs s.4) in
       record {
         parts = s.0;
         tree = s.1;
-        ready = record { parts = s.4; count = s.2; most = s.3; some = omega (arith, s.2, branching.0, d.some); apart = (beyond, d.apart) };
-        deep = subst (λ z. height z < left) s.1 d.deep;
+        ready = record { parts = s.4; count = s.2; most = s.3; some = omega (arith, s.2, branching.0, d.some); apart = d.apart };
         branching = branching.1;
         placed = subst (Placed dist) s.1 d.placed;
         numbers = apart_sub (gathered_parts if_standing s.0) (gathered_parts always s.0) (standing_parts_sub s.0) (subst (λ z. Apart (members z)) s.1 d.numbers);
@@ -262,7 +259,7 @@ module _ {E : Type 0} (dist : E → E → ℕ) (degree left : ℕ) (rows : List 
     pivot_marked rows' k l here put =
         let ps = i.parts in
         let s = sample_in row in
-        let c = nth_child rows b (length rows) ps fs i.ready k l in
+        let c = nth_child rows b [] ps fs i.ready k l in
         let pk = get_or b.pivots k 0 in
         let f : Row E → Row E = λ r. record { element = r.element; number = r.number; marked = true; place = r.place; node = r.node } in
         let same : c.row ≡ row = same_row rows at c.row row (ap (slice_get rows) (sym here) ∙ c.there) d.there in
@@ -309,18 +306,16 @@ module _ {E : Type 0} (dist : E → E → ℕ) (degree left : ℕ) (rows : List 
       below_stands : Among (sample_in row) (standing c.tree)
       below_stands = stands_below (sample_in row) j i.parts c.tree c.is_child i.all_numbers i.stands (row_among rows always at row d.there (inl refl) c.row.node c.tree c.below mine c.shows)
 
-      pub child_droppable : Droppable dist degree (left - 1) rows c.row.node at c.tree c.below row
+      pub child_droppable : Droppable dist degree rows c.row.node at c.tree c.below row
       child_droppable =
           let ps = i.parts in
-          let pj = get_or b.pivots j 0 in
-          let apart = distinct_shuffle (c.before ++ (pj ∷ (c.below ++ c.behind))) (pj ∷ (c.below ++ (c.before ++ c.behind))) (arranged c.before pj c.below c.behind) (subst Distinct c.lies d.apart) in
           record {
             shows = c.shows;
-            apart = distinct_left c.below (c.before ++ c.behind) apart.1;
+            apart = below_apart rows b [] ps fs i.ready j c;
             there = d.there;
             lies = mine;
             stands = below_stands;
-            deep = of_child (λ u. height u < left - 1) (λ qs. height_parts qs < left - 1) (λ p col u rest h. (omega arith, omega arith)) j ps c.tree c.is_child (omega (arith, i.deep));
+            deep = omega (arith, d.deep, child_lower ps t c.tree j i.tree c.is_child);
             some = d.some;
             branching = of_child (Branching degree) (BranchingParts degree) (λ p col u rest h. h) j ps c.tree c.is_child i.branching;
             placed = (nearest_here dist (pivots ps) 0 j ps c.tree c.is_child i.placed).1;
@@ -328,42 +323,22 @@ module _ {E : Type 0} (dist : E → E → ℕ) (degree left : ℕ) (rows : List 
                 (λ p col u rest h. (apart_left (members u) (gathered_parts always rest) h.1, apart_right (members u) (gathered_parts always rest) h.1)) j ps c.tree c.is_child i.all_numbers;
           }
 
-      -- dropped below the child, which is put back
-      pub dropped_below : (rows₁ rows₂ : List (Row E)) (kid : Node) (freed : Bool) → Drops rows rows₁ kid freed at (shrunk row.number c.tree) c.below → rows₂ ≡ with_node (get_or b.pivots j 0) kid rows₁ → Drops rows rows₂ (node.Branch b) freed at (shrunk row.number t) fs
-      dropped_below rows₁ rows₂ kid freed given put =
+      -- dropped below the child
+      pub dropped_below : (rows₂ : List (Row E)) (freed : Bool) → DropsUnder rows rows₂ (get_or b.pivots j 0) freed at (shrunk row.number c.tree) c.below → Drops rows rows₂ (node.Branch b) freed at (shrunk row.number t) fs
+      dropped_below rows₂ freed given =
           let ps = i.parts in
           let s = sample_in row in
           let pj = get_or b.pivots j 0 in
-          let f : Row E → Row E = λ r. record { element = r.element; number = r.number; marked = r.marked; place = r.place; node = kid } in
-          let order = arranged c.before pj c.below c.behind in
-          let apart = distinct_shuffle (c.before ++ (pj ∷ (c.below ++ c.behind))) (pj ∷ (c.below ++ (c.before ++ c.behind))) order (subst Distinct c.lies d.apart) in
-          let off = all_left (λ z. pj ≡ z → ⊥) c.below (c.before ++ c.behind) apart.0 in
-          let there₁ : slice_get rows₁ pj ≡ Some c.row = given.only.others pj off ∙ c.there in
-          let there₂ : slice_get rows₂ pj ≡ Some (f c.row) = ap (λ u. slice_get u pj) put ∙ nth_changed rows₁ pj f c.row there₁ in
-          let keep : (z : ℕ) → (pj ≡ z → ⊥) → slice_get rows₂ z ≡ slice_get rows₁ z = λ z ne. ap (λ u. slice_get u z) put ∙ nth_unchanged rows₁ pj z f (λ q. ne (sym q)) in
-          let off' : Absent pj given.lies = lies_absent freed at given.lies c.below given.same_rows pj off in
-          let below' = frame rows₁ rows₂ kid (shrunk row.number c.tree) given.lies (All-weaker (λ z. pj ≡ z → ⊥) (Same rows₁ rows₂) keep given.lies off') given.shows in
-          let front = pj ∷ c.below in
-          let only_front : OnlyIn front rows rows₂ =
-          only_then rows rows₁ rows₂ front (only_wider rows rows₁ c.below front (λ z a. a.1) given.only)
-          (subst (OnlyIn front rows₁) (sym put) (only_wider rows₁ (with_node pj kid rows₁) (pj ∷ []) front (λ z a. (a.0, tt)) (only_node rows₁ pj kid))) in
-          let same_rest : AllByRecursion (Same rows rows₂) (c.before ++ c.behind) = All-weaker (λ z. Absent z front) (Same rows rows₂) (λ z a. only_front.others z a) (c.before ++ c.behind) (distinct_across front (c.before ++ c.behind) apart) in
           let g = shrunk row.number in
-          let changed = c.put_back rows₂ b (λ p. p) (λ col. col) g (f c.row) given.lies (record { pivots = refl; here = refl; others = λ z q. refl }) there₂ refl below'
-          (all_left (Same rows rows₂) c.before c.behind same_rest) (all_right (Same rows rows₂) c.before c.behind same_rest) in
-          let Standing-here = below_stands in
           let P = HasSample s (λ p. p) g in
-          let has = at_child P j ps c.tree c.is_child (λ p. (among_right s (if_standing p) (standing c.tree) Standing-here, λ a. (sym (marked_none row.number p (others_left s (if_standing p) (standing c.tree) a Standing-here)), refl))) in
+          let has = at_child P j ps c.tree c.is_child (λ p. (among_right s (if_standing p) (standing c.tree) below_stands, λ a. (sym (marked_none row.number p (others_left s (if_standing p) (standing c.tree) a below_stands)), refl))) in
           let equal = only_part s (λ p. p) g j ps has i.numbers in
-          let long = replaced_length (λ p. p) (λ col. col) g j ps in
+          let Before : List ℕ → Type 0 = λ lies. Shuffle ℕ (cond freed (at ∷ lies) lies) c.below in
+          let After : List ℕ → Type 0 = λ lies. Shuffle ℕ (cond freed (at ∷ lies) lies) fs in
+          let order : After (c.before ++ (pj ∷ (given.lies ++ c.behind))) = subst (Shuffle ℕ (cond freed (at ∷ (c.before ++ (pj ∷ (given.lies ++ c.behind)))) (c.before ++ (pj ∷ (given.lies ++ c.behind))))) (sym c.lies) (lies_order freed at c.before pj c.below given.lies c.behind given.same_rows) in
           subst (λ z. Drops rows rows₂ (node.Branch b) freed at (shrunk row.number z) fs) (sym i.tree)
           (subst (λ z. Drops rows rows₂ (node.Branch b) freed at (branch z) fs) equal
-          (record {
-            lies = c.before ++ (pj ∷ (given.lies ++ c.behind));
-            shows = (b, refl, i.ready.count ∙ sym long, i.ready.most, changed);
-            same_rows = subst (Shuffle ℕ (cond freed (at ∷ (c.before ++ (pj ∷ (given.lies ++ c.behind)))) (c.before ++ (pj ∷ (given.lies ++ c.behind))))) (sym c.lies) (lies_order freed at c.before pj c.below given.lies c.behind given.same_rows);
-            only = only_wider rows rows₂ front fs (λ z a. all_left (λ k. z ≡ k → ⊥) front (c.before ++ c.behind) (all_shuffle (λ k. z ≡ k → ⊥) (c.before ++ (pj ∷ (c.below ++ c.behind))) (pj ∷ (c.below ++ (c.before ++ c.behind))) order (subst (Absent z) c.lies a))) only_front;
-          }))
+          (level rows b [] ps fs i.ready j c Before rows₂ (g c.tree) given After order b (λ col. col) g refl (record { pivots = refl; here = refl; others = λ z q. refl }) refl (replaced_length (λ p. p) (λ col. col) g j ps)))
 
     pub drop_near : (e : E) (ds : List ℕ) (j : ℕ) → Measured dist rows b e ds → e ≡ row.element → nearest (take b.count ds) ≡ j → nearest (distances dist (pivots i.parts) (sample_in row)) ≡ j
-    drop_near e ds j m q near = ap nearest (sym (distances_are rows b (length rows) i.parts fs i.ready dist (sample_in row) ds (subst (λ z. Measured dist rows b z ds) q m))) ∙ near
+    drop_near e ds j m q near = ap nearest (sym (distances_are rows b [] i.parts fs i.ready dist (sample_in row) ds (subst (λ z. Measured dist rows b z ds) q m))) ∙ near

@@ -12,8 +12,9 @@ use Rattle.gnat_rows.specs.declared.Leaf.{Leaf}
 use Rattle.gnat_rows.specs.declared.Node.{Node}
 use Rattle.gnat_rows.specs.declared.Row.{Row}
 use Rattle.gnat_rows.specs.Shows.{sample_in, held, Shows}
-use Rattle.gnat_rows.specs.Lying.{Distinct, OnlyIn}
+use Rattle.gnat_rows.specs.Lying.{Distinct}
 use Rattle.gnat_rows.specs.Trees.{height}
+use Rattle.gnat_filing.specs.Filed.{too_deep, LeavesIn}
 
 -- the other rows, in their order
 abbrev pub without_row : ℕ → List ℕ → List ℕ
@@ -32,28 +33,25 @@ IsPivot b at false = (k : ℕ) → k < b.count → slice_index b.pivots k ≢ at
 
 module _ {E : Type 0} where
   -- the rows show the tree t from the node on, in fs, and the sample of the row `at` stands in it
-  pub record Droppable (dist : E → E → ℕ) (degree left : ℕ) (rows : List (Row E)) (node : Node) (at : ℕ) (t : Tree E) (fs : List ℕ) (row : Row E) : Type 0 where
+  pub record Droppable (dist : E → E → ℕ) (degree : ℕ) (rows : List (Row E)) (node : Node) (at : ℕ) (t : Tree E) (fs : List ℕ) (row : Row E) : Type 0 where
     pub shows : Shows rows node t fs
     pub apart : Distinct fs
     pub there : slice_get rows at ≡ Some row
     pub lies : Among at fs
     pub stands : Among (sample_in row) (standing t)
-    pub deep : height t < left
+    pub deep : height t < too_deep
     pub some : 1 ≤ degree
     pub branching : Branching degree t
     pub placed : Placed dist t
     pub numbers : Apart (members t)
 
-  abbrev pub SomeDroppable : (E → E → ℕ) → ℕ → List (Row E) → Node → ℕ → Type 0
-  SomeDroppable dist left rows node at = (degree : ℕ) × (t : Tree E) × (fs : List ℕ) × (row : Row E) × Droppable dist degree left rows node at t fs row
+  abbrev pub SomeDroppable : (E → E → ℕ) → List (Row E) → Node → ℕ → Type 0
+  SomeDroppable dist rows node at = (degree : ℕ) × (t : Tree E) × (fs : List ℕ) × (row : Row E) × Droppable dist degree rows node at t fs row
 
   -- the rows show the tree, which lies in the rows fs, without `at` if that is freed; no other row is changed
-  pub record Drops (rows rows' : List (Row E)) (node' : Node) (freed : Bool) (at : ℕ) (t : Tree E) (fs : List ℕ) : Type 0 where
-    pub lies : List ℕ
-    pub shows : Shows rows' node' t lies
-    pub same_rows : Shuffle ℕ (cond freed (at ∷ lies) lies) fs
-    pub only : OnlyIn fs rows rows'
+  abbrev pub Drops : List (Row E) → List (Row E) → Node → Bool → ℕ → Tree E → List ℕ → Type 0
+  Drops rows rows' node' freed at t fs = LeavesIn (λ lies. Shuffle ℕ (cond freed (at ∷ lies) lies) fs) rows rows' node' t fs
 
-  abbrev pub DropsFrom : (E → E → ℕ) → ℕ → List (Row E) → List (Row E) → Node → Node → Bool → ℕ → Type 0
-  DropsFrom dist left rows rows' node node' freed at =
-      (degree : ℕ) (t : Tree E) (fs : List ℕ) (row : Row E) → Droppable dist degree left rows node at t fs row → Drops rows rows' node' freed at (shrunk row.number t) fs
+  abbrev pub DropsFrom : (E → E → ℕ) → List (Row E) → List (Row E) → Node → Node → Bool → ℕ → Type 0
+  DropsFrom dist rows rows' node node' freed at =
+      (degree : ℕ) (t : Tree E) (fs : List ℕ) (row : Row E) → Droppable dist degree rows node at t fs row → Drops rows rows' node' freed at (shrunk row.number t) fs

@@ -13,6 +13,10 @@ use Rattle.gnat_rows.specs.Shows.{sample_in, held, HoldsSamples, Shows}
 use Rattle.gnat_rows.specs.Lying.{Distinct, OnlyIn}
 use Rattle.gnat_rows.specs.Trees.{height}
 
+-- no tree over 1,024 rows is so many branches deep
+abbrev pub too_deep : ℕ
+too_deep = 1025
+
 module _ {E : Type 0} where
   -- the rows show the tree t from the node on, in fs, and the row `at` is another
   pub record Ready (degree bucket left : ℕ) (rows : List (Row E)) (node : Node) (at : ℕ) (t : Tree E) (fs : List ℕ) : Type 0 where
@@ -23,15 +27,19 @@ module _ {E : Type 0} where
     pub branching : Branching degree t
     pub leaves : Leaves bucket t
 
-  abbrev pub Fileable : ℕ → ℕ → ℕ → List (Row E) → Node → ℕ → Type 0
-  Fileable degree bucket left rows node at = (t : Tree E) × (fs : List ℕ) × Ready degree bucket left rows node at t fs
+  abbrev pub Fileable : ℕ → ℕ → List (Row E) → Node → ℕ → Type 0
+  Fileable degree bucket rows node at = (t : Tree E) × (fs : List ℕ) × Ready degree bucket too_deep rows node at t fs
 
-  -- the rows show a tree from the node on, which lies in the rows fs, in another order; no other row is changed
-  pub record LeavesTree (rows rows' : List (Row E)) (node' : Node) (t : Tree E) (fs : List ℕ) : Type 0 where
+  -- the rows show a tree from the node on, and of the rows in which it lies this holds; no row but fs is changed
+  pub record LeavesIn (Order : List ℕ → Type 0) (rows rows' : List (Row E)) (node' : Node) (t : Tree E) (fs : List ℕ) : Type 0 where
     pub lies : List ℕ
     pub shows : Shows rows' node' t lies
-    pub same_rows : Shuffle ℕ lies fs
+    pub same_rows : Order lies
     pub only : OnlyIn fs rows rows'
+
+  -- it lies in the rows fs, in another order
+  abbrev pub LeavesTree : List (Row E) → List (Row E) → Node → Tree E → List ℕ → Type 0
+  LeavesTree rows rows' node' t fs = LeavesIn (λ lies. Shuffle ℕ lies fs) rows rows' node' t fs
 
   -- a leaf of at most so many rows and the row `at`, which hold the samples xs
   pub record ReadyLeaf (most : ℕ) (rows : List (Row E)) (l : LeafRecord) (at : ℕ) (xs : List (Sample E)) : Type 0 where
@@ -49,7 +57,7 @@ module _ {E : Type 0} where
 
 module _ {E : Type 0} (dist : E → E → ℕ) (degree bucket : ℕ) where
   -- whatever tree the rows showed, they show it with the sample of the row `at` filed
-  abbrev pub FilesIn : ℕ → List (Row E) → List (Row E) → Node → Node → ℕ → Type 0
-  FilesIn left rows rows' node node' at =
-      (t : Tree E) (fs : List ℕ) (row : Row E) → Ready degree bucket left rows node at t fs → slice_get rows at ≡ Some row
+  abbrev pub FilesIn : List (Row E) → List (Row E) → Node → Node → ℕ → Type 0
+  FilesIn rows rows' node node' at =
+      (t : Tree E) (fs : List ℕ) (row : Row E) → Ready degree bucket too_deep rows node at t fs → slice_get rows at ≡ Some row
       → LeavesTree rows rows' node' (grown dist degree bucket (sample_in row) t) (at ∷ fs)

@@ -4,3 +4,5 @@ pub mod Leaf
 pub mod Choosing
 pub mod Filling
 pub mod Dropping
+pub mod Under
+pub mod Seeking

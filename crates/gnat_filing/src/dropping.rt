@@ -1,6 +1,7 @@
 // Dropping a sample from below a node.
 ghost use Rattle.std.specs.Prelude.{◌≤◌};
 ghost use Rattle.gnat_filing.specs.Dropping.{Shortened, IsPivot, SomeDroppable, DropsFrom};
+ghost use Rattle.gnat_filing.specs.Seeking.{Holds, HoldsIn, IsFollowed, SomeDroppableUnder, Seeks};
 
 use crate::splitting::pushed;
 use crate::widening::{closest, measured};
@@ -40,11 +41,11 @@ fn is_pivot(b: &Branch, at: u16) -> bool
     b.pivots[..b.count as usize].contains(&at)
 }
 
-// Drops the sample of the row `at` from below a node: it leaves its leaf, or is marked where it is a
-// pivot. The tree below the node is fewer than `left` branches deep.
-pub fn take_out<E: Metric>(rows: &mut [Row<E>], node: Node, at: u16, left: usize) -> Dropped
-    requires { SomeDroppable E.dist left rows.old node at }
-    ensures { DropsFrom E.dist left rows.old rows.new node result.node result.freed at }
+// Drops the sample of the row `at` from the node that holds it: it leaves its leaf, or is marked where it is a pivot.
+fn drop_held<E: Metric>(rows: &mut [Row<E>], node: Node, at: u16) -> Dropped
+    requires some { SomeDroppable E.dist rows.old node at }
+    requires held { Holds at node }
+    ensures { DropsFrom E.dist rows.old rows.new node result.node result.freed at }
 {
     match node {
         Node::Leaf(l) => Dropped {
@@ -52,22 +53,62 @@ pub fn take_out<E: Metric>(rows: &mut [Row<E>], node: Node, at: u16, left: usize
             freed: true,
         },
         Node::Branch(b) => {
-            if is_pivot(&b, at) {
-                put_marked(rows, at as usize, true);
-                return Dropped {
-                    node: Node::Branch(b),
-                    freed: false,
-                };
-            }
-            let element = element_in(rows, at as usize);
-            let ds = measured(rows, &b, &element);
-            let j = closest(&ds[..b.count as usize]);
-            let pivot = b.pivots[j] as usize;
-            let child = node_in(rows, pivot);
-            let dropped = take_out(rows, child, at, left - 1);
-            put_node(rows, pivot, dropped.node);
+            put_marked(rows, at as usize, true);
             Dropped {
                 node: Node::Branch(b),
+                freed: false,
+            }
+        }
+    }
+}
+
+// The row of the pivot under which the sample of the row `at` lies, or none where the node itself holds it.
+fn followed<E: Metric>(rows: &[Row<E>], node: &Node, at: u16) -> Option<u16>
+    requires { SomeDroppable E.dist rows.now node.now at }
+    ensures { IsFollowed E.dist rows.now node.now at result }
+{
+    match node {
+        Node::Leaf(_) => None,
+        Node::Branch(b) => {
+            if is_pivot(b, at) {
+                return None;
+            }
+            let element = element_in(rows, at as usize);
+            let ds = measured(rows, b, &element);
+            let j = closest(&ds[..b.count as usize]);
+            Some(b.pivots[j])
+        }
+    }
+}
+
+// Goes down from the pivot in the row `root` to the one whose node holds the sample of the row `at`.
+fn holder<E: Metric>(rows: &[Row<E>], root: u16, at: u16) -> u16
+    requires { SomeDroppableUnder E.dist rows.now root at }
+    ensures holds { HoldsIn rows.now result at }
+    ensures seeks { Seeks E.dist rows.now root result at }
+{
+    let mut pivot = root;
+    while let Some(next) = followed(rows, &rows[pivot as usize].node, at) {
+        pivot = next;
+    }
+    pivot
+}
+
+// Drops the sample of the row `at` from below a node that is in no row, and tells what the node becomes: no branch on the
+// way is changed.
+pub fn take_out<E: Metric>(rows: &mut [Row<E>], node: Node, at: u16) -> Dropped
+    requires { SomeDroppable E.dist rows.old node at }
+    ensures { DropsFrom E.dist rows.old rows.new node result.node result.freed at }
+{
+    match followed(rows, &node, at) {
+        None => drop_held(rows, node, at),
+        Some(root) => {
+            let pivot = holder(rows, root, at) as usize;
+            let held = node_in(rows, pivot);
+            let dropped = drop_held(rows, held, at);
+            put_node(rows, pivot, dropped.node);
+            Dropped {
+                node,
                 freed: dropped.freed,
             }
         }

@@ -34,11 +34,13 @@ arranged before i below behind =
     in_turn (before ++ (i ∷ (below ++ behind))) (i ∷ (before ++ (below ++ behind))) (i ∷ (below ++ (before ++ behind)))
     (shuffle_front before i (below ++ behind)) (after i (before ++ (below ++ behind)) (below ++ (before ++ behind)) (shuffle_middle before below behind))
 
--- the same with one more in front
-pub arranged_with : (at : ℕ) (before : List ℕ) (i : ℕ) (below behind : List ℕ) → Shuffle ℕ (at ∷ (before ++ (i ∷ (below ++ behind)))) ((i ∷ (at ∷ below)) ++ (before ++ behind))
-arranged_with at before i below behind =
-    in_turn (at ∷ (before ++ (i ∷ (below ++ behind)))) (at ∷ (i ∷ (below ++ (before ++ behind)))) (i ∷ (at ∷ (below ++ (before ++ behind))))
-    (after at (before ++ (i ∷ (below ++ behind))) (i ∷ (below ++ (before ++ behind))) (arranged before i below behind)) (swapped at i (below ++ (before ++ behind)))
+-- the same with others in front, which come behind the one row
+pub arranged_with : (extra before : List ℕ) (i : ℕ) (below behind : List ℕ) → Shuffle ℕ (extra ++ (before ++ (i ∷ (below ++ behind)))) ((i ∷ (extra ++ below)) ++ (before ++ behind))
+arranged_with [] before i below behind = arranged before i below behind
+arranged_with (x ∷ xs) before i below behind =
+    let rest = (xs ++ below) ++ (before ++ behind) in
+    in_turn (x ∷ (xs ++ (before ++ (i ∷ (below ++ behind))))) (x ∷ (i ∷ rest)) (i ∷ (x ∷ rest))
+    (after x (xs ++ (before ++ (i ∷ (below ++ behind)))) (i ∷ rest) (arranged_with xs before i below behind)) (swapped x i rest)
 
 -- more rows below, and so more in all
 pub arranged_back : (at : ℕ) (before : List ℕ) (i : ℕ) (below below' behind : List ℕ) → Shuffle ℕ below' (at ∷ below) → Shuffle ℕ (before ++ (i ∷ (below' ++ behind))) (at ∷ (before ++ (i ∷ (below ++ behind))))
@@ -49,4 +51,4 @@ arranged_back at before i below below' behind s =
     in_turn (before ++ (i ∷ (below' ++ behind))) middle old (arranged before i below' behind)
     (in_turn middle front old
     (after i (below' ++ (before ++ behind)) ((at ∷ below) ++ (before ++ behind)) (shuffle_before (before ++ behind) below' (at ∷ below) s))
-    (shuffle_back old front (arranged_with at before i below behind)))
+    (shuffle_back old front (arranged_with (at ∷ []) before i below behind)))

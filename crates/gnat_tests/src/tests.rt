@@ -5,6 +5,7 @@ use card::Card;
 use gnat::chosen::choose;
 use gnat::gnat::Gnat;
 use gnat_rows::{Node, Row as TreeRow};
+use hits::Hit;
 use index::index::Index;
 use index::refusal::Refusal;
 use scan::rows::Row;
@@ -137,4 +138,48 @@ fn many_rows(rt: HostRuntime) -> Result<(), Fail> {
     };
     beside_all(&rt, 1024, style, 2, 5000)?;
     beside_all(&rt, 1030, style, 200, 5000)
+}
+
+// The first three hits at a pose with which all samples are equal.
+fn nearest_three<I: Index<Element = Arm>>(index: &I, at: &Arm) -> [u16; 3] {
+    let none = Hit {
+        number: 0,
+        distance: 1,
+    };
+    let mut hits = [none; 3];
+    let _ = index.near(at, 3, &mut hits);
+    hits.map(|hit| hit.number)
+}
+
+// Equal samples make the deepest tree, down which every call goes to the end: filled, emptied to the half from the newest on,
+// filled again, and emptied from the oldest on.
+fn fill_and_empty<I: Index<Element = Arm>>(rt: &impl Abort, index: &mut I) {
+    let pose = Arm { angles: [7; 6] };
+    for number in 1..=1024 {
+        assert_eq!(rt; index.add(pose), Ok(number));
+    }
+    assert_eq!(rt; nearest_three(index, &pose), [1, 2, 3]);
+    for fewer in 0..512 {
+        assert_eq!(rt; index.drop(1024 - fewer), Ok(()));
+    }
+    for number in 1025..=1536 {
+        assert_eq!(rt; index.add(pose), Ok(number));
+    }
+    for number in 1..=511 {
+        assert_eq!(rt; index.drop(number), Ok(()));
+    }
+    assert_eq!(rt; nearest_three(index, &pose), [512, 1025, 1026]);
+    assert_eq!(rt; index.tally(), (1024, 513, 1536));
+}
+
+#[test]
+fn equal_samples(rt: HostRuntime) -> Result<(), Fail> {
+    let heap = rt.alloc();
+    let blank = Arm { angles: [0; 6] };
+    for settings in [(2, 2), (4, 8), (8, 16)] {
+        let mut rows = vec![in heap; TreeRow::vacant(blank); 1024]?;
+        let settings = choose(settings.0, settings.1)?;
+        fill_and_empty(&rt, &mut Gnat::new(rows.as_mut_slice(), settings));
+    }
+    Ok(())
 }

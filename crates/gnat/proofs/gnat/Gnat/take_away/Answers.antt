@@ -18,7 +18,7 @@ take_out-dropped-requires g c =
     let at = c.args.at in
     let same : c.row_at-row.result ≡ get_or (places rows) at 0 = c.row_at-row.ensures.2 ∙ sym (place_of rows at c.row_at-row.ensures.0 c.row_at-row.ensures.1) in
     let r = nth_there rows (get_or (places rows) at 0) (row_within dist s o at c.requires.listed) in
-    (s.settings.degree, o.tree, o.lies, r.0, subst (λ i. Droppable dist s.settings.degree 1025 rows s.root i o.tree o.lies r.0) (sym same) (may_take dist s o at c.requires.listed r.0 r.1))
+    (s.settings.degree, o.tree, o.lies, r.0, subst (λ i. Droppable dist s.settings.degree rows s.root i o.tree o.lies r.0) (sym same) (may_take dist s o at c.requires.listed r.0 r.1))
 
 pub returns : goal.returns
 returns g c =
@@ -32,7 +32,7 @@ returns g c =
     let root = c.take_out-dropped.result.node in
     let freed = c.take_out-dropped.result.freed in
     let long : length later ≡ length rows = search (rules, c.take_out-dropped.auto) in
-    let gone = subst (λ i. DropsFrom dist 1025 rows later s.root root freed i) same c.take_out-dropped.ensures in
+    let gone = subst (λ i. DropsFrom dist rows later s.root root freed i) same c.take_out-dropped.ensures in
     λ n l.
     let r = l.1 in
     let d = gone s.settings.degree o.tree o.lies r.0 (may_take dist s o at c.requires.listed r.0 r.1) in
@@ -51,7 +51,7 @@ invariant_of-self g c =
     let root = c.take_out-dropped.result.node in
     let freed = c.take_out-dropped.result.freed in
     let long : length later ≡ length rows = search (rules, c.take_out-dropped.auto) in
-    let gone = subst (λ i. DropsFrom dist 1025 rows later s.root root freed i) same c.take_out-dropped.ensures in
+    let gone = subst (λ i. DropsFrom dist rows later s.root root freed i) same c.take_out-dropped.ensures in
     let r = nth_there rows (get_or (places rows) at 0) (row_within dist s o at c.requires.listed) in
     let n = r.0.number in
     let d = gone s.settings.degree o.tree o.lies r.0 (may_take dist s o at c.requires.listed r.0 r.1) in
