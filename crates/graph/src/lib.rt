@@ -31,7 +31,7 @@ const SMALL: usize = 64;
 
 const MEDIUM: usize = 256;
 
-// The smallest number that a chain of edges from the record at `at` reaches, with tables for so many places.
+// The island of the record at `at`, by its smallest number, with tables for so many places and eight edges to each.
 fn island_in<const PLACES: usize, const EDGES: usize>(records: &Records, at: usize) -> u16
     requires at { at < length records.now.all.now }
     requires places { (length records.now.all.now ≤ PLACES) × (PLACES ≤ 1024) }
@@ -90,7 +90,7 @@ fn route_in<
     Ok((cost.length, count))
 }
 
-/// The smallest number that a chain of edges from the record at `at` reaches.
+/// The island of the record at `at`: the smallest number on it.
 pub fn island(records: &Records, at: usize) -> u16
     requires { at < length records.now.all.now }
     ensures { Island (Standing records.now.all.now) (Linked (edges_of records.now.all.now)) (number_at records.now.all.now at) result }
