@@ -1,1 +1,4 @@
 pub mod Contained
+pub mod Firsts
+pub mod Parts
+pub mod OfJoints

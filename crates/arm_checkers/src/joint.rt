@@ -1,0 +1,114 @@
+// One joint of a motion. It goes one way only and by at most one from each step to the next, so it
+// cannot leap over an arc.
+ghost use Rattle.std.specs.Prelude.{◌≡◌, ℕ, ◌+◌, ◌<◌, ◌≤◌, nat_le};
+
+use arm::turn;
+use walls::Arc;
+
+// Where the joint starts, whether it goes up, how far it turns in all, and in how many steps.
+#[derive(Clone, Copy)]
+pub struct Joint {
+    start: u16,
+    upward: bool,
+    size: u16,
+    steps: u16,
+    ghost round: { start < 4096 },
+    ghost slow: { size ≤ steps },
+    ghost few: { steps ≤ 2048 },
+}
+
+impl Joint {
+    ghost use Rattle.arm.specs.Turns.{swing_of};
+    ghost use Rattle.turning.specs.Motions.{joint_at};
+    ghost use Rattle.walls.specs.Arcs.{in_arc};
+    ghost use Rattle.arm_checkers.specs.First.{first_from};
+    ghost use Rattle.arm_checkers.specs.Joints.{part_done, joint_angle, angle_after};
+
+    // The joint that goes from one angle to another in so many steps.
+    pub fn new(from: u16, to: u16, steps: u16) -> Joint
+        requires slow { swing_of from to ≤ steps }
+        requires few { steps ≤ 2048 }
+        ensures { (t : ℕ) → joint_angle result t ≡ joint_at from to steps t }
+    {
+        let turn = turn(from, to);
+        Joint {
+            start: from % 4096,
+            upward: turn >= 0,
+            size: turn.unsigned_abs() as u16,
+            steps,
+        }
+    }
+
+    // How much of the turn is done at a step, whichever way it goes. Of a turn down what is left is
+    // rounded down, so what is done is rounded up.
+    fn done(&self, step: u16) -> u32
+        ensures value { result ≡ part_done self.now step }
+        ensures bound { result ≤ step }
+    {
+        let product = u32::from(self.size) * u32::from(step);
+        if product == 0 {
+            return 0;
+        }
+        let steps = u32::from(self.steps);
+        if self.upward {
+            product / steps
+        } else {
+            product.div_ceil(steps)
+        }
+    }
+
+    // The angle at which so much of the turn is done.
+    fn angle_after(&self, done: u32) -> u16
+        ensures { result ≡ angle_after self.now done }
+    {
+        let way = (done % 4096) as u16;
+        if self.upward {
+            (self.start + way) % 4096
+        } else {
+            (self.start + (4096 - way)) % 4096
+        }
+    }
+
+    // The first step, up to the last, at which at least this part of the turn is done.
+    fn first_done(&self, part: u32, last: u16) -> Option<u16>
+        requires some { 0 < part }
+        requires small { part ≤ 65535 + 4096 }
+        ensures { result ≡ first_from (λ t. nat_le part (part_done self.now t)) 0 last }
+    {
+        let size = u32::from(self.size);
+        let steps = u32::from(self.steps);
+        if size == 0 {
+            return None;
+        }
+        // Less than the part is done as long as the size times the step is no more than this.
+        let short = if self.upward {
+            part * steps - 1
+        } else {
+            (part - 1) * steps
+        };
+        if size * u32::from(last) <= short {
+            return None;
+        }
+        Some((short / size + 1) as u16)
+    }
+
+    // The first step from one on, up to the last, at which the joint is in an arc. Outside the arc it
+    // has to go up to the arc's start or down to its end, and that is a part of the turn.
+    pub fn first_in(&self, arc: &Arc, from: u16, last: u16) -> Option<u16>
+        requires { from ≤ last }
+        ensures { result ≡ first_from (λ t. in_arc arc.now (joint_angle self.now t)) from last }
+    {
+        let done = self.done(from);
+        let ahead = arc.ahead(self.angle_after(done));
+        let extent = arc.extent % 4096;
+        if ahead <= extent {
+            return Some(from);
+        }
+        let left = if self.upward {
+            4096 - ahead
+        } else {
+            ahead - extent
+        };
+        self.first_done(done + u32::from(left), last)
+    }
+}
