@@ -43,14 +43,18 @@ module _ (p : ℕ → Bool) where
   found_some zero a t e = cc
   found_some (suc n) a t e = elim (p a) as (λ b. p a ≡ b → cond b (Some a) (find p (range_with_len (a + 1) n)) ≡ Some t → (a ≤ t) × (t < a + suc n) × (p t ≡ true) × ((s : ℕ) → a ≤ s → s < t → p s ≡ false)) [
     | true ↦ λ now taken.
-      let same : a ≡ t = cc in
-      (omega arith, omega arith, subst (λ x. p x ≡ true) same now, λ s l h. absurd (omega arith))
+        let same : a ≡ t = cc in
+        (omega arith, omega arith, subst (λ x. p x ≡ true) same now, λ s l h. absurd (omega arith))
     | false ↦ λ now rest.
-      let r = found_some n (a + 1) t rest in
-      (omega arith, omega arith, r.2, λ s l h. ⊎_elim
-        (λ less. r.3 s (omega arith) h)
-        (λ no_less. let same : s ≡ a = omega arith in ap p same ∙ now)
-        (cases_lt a s))
+        let r = found_some n (a + 1) t rest in (
+          omega arith,
+          omega arith,
+          r.2,
+          λ s l h. ⊎_elim
+              (λ less. r.3 s (omega arith) h)
+              (λ no_less. let same : s ≡ a = omega arith in ap p same ∙ now)
+              (cases_lt a s),
+        )
   ] refl e
 
   -- none

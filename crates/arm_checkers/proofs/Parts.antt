@@ -7,7 +7,7 @@ use Rattle.std.proofs.lemmas.Bool.{cases_lt}
 use Rattle.turning.specs.Circle.{floor}
 use Rattle.turning.specs.Motions.{turned}
 use Rattle.turning.proofs.Floors.{neg_times}
-use Rattle.arm_checkers.specs.Joints.{directed}
+use Rattle.arm_checkers.specs.Joints.{directed, short}
 
 -- as a machine computes it
 pub part : Bool → ℕ → ℕ → ℕ → ℕ
@@ -78,10 +78,6 @@ pub some_steps : (size n t : ℕ) → size ≤ n → (size * t ≡ 0 → ⊥) �
 some_steps zero n t l some = absurd (some (zero-mul t))
 some_steps (suc size) n t l some = omega arith
 
--- the greatest product of size and step at which less than k is done
-pub short : Bool → ℕ → ℕ → ℕ
-short upward n k = cond upward (k * n - 1) ((k - 1) * n)
-
 ceil_reached : (x n k : ℕ) → 0 < n → (k - 1) * n < x → k ≤ div_ceil x n
 ceil_reached zero n k h l = absurd (omega arith)
 ceil_reached (suc a) n k h l = let q : k - 1 ≤ a / n = (le-div_iff_mul-le h).1 (omega arith) in omega (arith, ceil_next a n h)
@@ -91,12 +87,10 @@ ceil_unreached zero n k h some l = omega (arith, ceil_zero n)
 ceil_unreached (suc a) n k h some l = let q : a / n < k - 1 = (div-lt_iff_lt-mul h).1 (omega arith) in omega (arith, ceil_next a n h)
 
 pub reached : (upward : Bool) (size n t k : ℕ) → 0 < n → 0 < k → short upward n k < size * t → k ≤ part upward size n t
-unfolding short
 reached true size n t k h some l = let q : k ≤ (size * t) / n = (le-div_iff_mul-le h).1 (omega arith) in omega (arith, part_up size n t h)
 reached false size n t k h some l = let q = ceil_reached (size * t) n k h l in omega (arith, part_down size n t h)
 
 pub unreached : (upward : Bool) (size n t k : ℕ) → 0 < n → 0 < k → size * t ≤ short upward n k → part upward size n t < k
-unfolding short
 unreached true size n t k h some l =
     let whole : 1 * 1 ≤ k * n = mul-le-mul some h in
     let q : (size * t) / n < k = (div-lt_iff_lt-mul h).1 (omega arith) in
@@ -105,7 +99,6 @@ unreached false size n t k h some l = let q = ceil_unreached (size * t) n k h so
 
 -- one more takes as many steps' worth more
 short_next : (upward : Bool) (n k : ℕ) → 0 < n → 0 < k → short upward n (k + 1) ≡ short upward n k + n
-unfolding short
 short_next true n k h some = let whole : 1 * 1 ≤ k * n = mul-le-mul some h in omega (arith, add-mul k 1 n)
 short_next false n zero h some = absurd (omega arith)
 short_next false n (suc k) h some =

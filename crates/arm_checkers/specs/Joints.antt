@@ -1,5 +1,5 @@
 -- One joint of a motion: where it is at each step, and how much of its turn is done.
-use Rattle.std.specs.Prelude.{ℕ, Bool, cond, ℤ, pos, ◌+ℤ◌, neg_ℤ, unsigned_abs}
+use Rattle.std.specs.Prelude.{ℕ, ◌-◌, ◌*◌, Bool, cond, ℤ, pos, ◌+ℤ◌, neg_ℤ, unsigned_abs}
 use Rattle.turning.specs.Circle.{wrap}
 use Rattle.turning.specs.Motions.{turned}
 use Rattle.arm_checkers.specs.declared.joint.Joint.{Joint}
@@ -23,3 +23,11 @@ joint_angle j t = wrap (pos j.start +ℤ joint_turned j t)
 -- its angle when so much of its turn is done
 unfoldable pub angle_after : Joint → ℕ → ℕ
 angle_after j k = wrap (pos j.start +ℤ directed j.upward k)
+
+-- the greatest product of size and step at which less than k is done, with n steps in all
+abbrev pub short : Bool → ℕ → ℕ → ℕ
+short upward n k = cond upward (k * n - 1) ((k - 1) * n)
+
+-- how far it is to an arc's start going up, or to its end going down
+abbrev pub way_left : Bool → ℕ → ℕ → ℕ
+way_left upward extent ahead = cond upward (4096 - ahead) (ahead - extent)

@@ -22,7 +22,7 @@ impl Joint {
     ghost use Rattle.turning.specs.Motions.{joint_at};
     ghost use Rattle.walls.specs.Arcs.{in_arc};
     ghost use Rattle.arm_checkers.specs.First.{first_from};
-    ghost use Rattle.arm_checkers.specs.Joints.{part_done, joint_angle, angle_after};
+    ghost use Rattle.arm_checkers.specs.Joints.{part_done, joint_angle, angle_after, short, way_left};
 
     // The joint that goes from one angle to another in so many steps.
     pub fn new(from: u16, to: u16, steps: u16) -> Joint
@@ -69,6 +69,21 @@ impl Joint {
         }
     }
 
+    // The greatest product of size and step at which less than this part of the turn is done.
+    fn short_of(&self, part: u32) -> u32
+        requires some { 0 < part }
+        requires small { part ≤ 65535 + 4096 }
+        requires many { 0 < self.now.steps }
+        ensures { result ≡ short self.now.upward self.now.steps part }
+    {
+        let steps = u32::from(self.steps);
+        if self.upward {
+            part * steps - 1
+        } else {
+            (part - 1) * steps
+        }
+    }
+
     // The first step, up to the last, at which at least this part of the turn is done.
     fn first_done(&self, part: u32, last: u16) -> Option<u16>
         requires some { 0 < part }
@@ -76,24 +91,33 @@ impl Joint {
         ensures { result ≡ first_from (λ t. nat_le part (part_done self.now t)) 0 last }
     {
         let size = u32::from(self.size);
-        let steps = u32::from(self.steps);
         if size == 0 {
             return None;
         }
-        // Less than the part is done as long as the size times the step is no more than this.
-        let short = if self.upward {
-            part * steps - 1
-        } else {
-            (part - 1) * steps
-        };
+        let short = self.short_of(part);
         if size * u32::from(last) <= short {
             return None;
         }
         Some((short / size + 1) as u16)
     }
 
-    // The first step from one on, up to the last, at which the joint is in an arc. Outside the arc it
-    // has to go up to the arc's start or down to its end, and that is a part of the turn.
+    // How far the joint has to go to an arc that it is outside of: up to its start, or down to its
+    // end. It is so far ahead of the arc's start.
+    fn way_to(&self, extent: u16, ahead: u16) -> u16
+        requires outside { extent < ahead }
+        requires round { ahead < 4096 }
+        ensures value { result ≡ way_left self.now.upward extent ahead }
+        ensures some { 0 < result }
+        ensures round { result ≤ 4096 }
+    {
+        if self.upward {
+            4096 - ahead
+        } else {
+            ahead - extent
+        }
+    }
+
+    // The first step from one on, up to the last, at which the joint is in an arc.
     pub fn first_in(&self, arc: &Arc, from: u16, last: u16) -> Option<u16>
         requires { from ≤ last }
         ensures { result ≡ first_from (λ t. in_arc arc.now (joint_angle self.now t)) from last }
@@ -104,11 +128,7 @@ impl Joint {
         if ahead <= extent {
             return Some(from);
         }
-        let left = if self.upward {
-            4096 - ahead
-        } else {
-            ahead - extent
-        };
-        self.first_done(done + u32::from(left), last)
+        let part = done + u32::from(self.way_to(extent, ahead));
+        self.first_done(part, last)
     }
 }

@@ -1,5 +1,5 @@
 // An arc of the circle, of which 4,096 make a full turn.
-ghost use Rattle.std.specs.Prelude.{◌≡◌};
+ghost use Rattle.std.specs.Prelude.{◌≡◌, ◌<◌};
 ghost use Rattle.turning.specs.Circle.{ahead};
 ghost use Rattle.walls.specs.Arcs.{in_arc, meet};
 
@@ -13,7 +13,8 @@ pub struct Arc {
 impl Arc {
     // How far an angle lies ahead of the arc's start, going up.
     pub fn ahead(&self, angle: u16) -> u16
-        ensures { result ≡ ahead self.now.start angle }
+        ensures value { result ≡ ahead self.now.start angle }
+        ensures round { result < 4096 }
     {
         (angle % 4096 + (4096 - self.start % 4096)) % 4096
     }

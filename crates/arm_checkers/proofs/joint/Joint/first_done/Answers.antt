@@ -1,19 +1,12 @@
-use Rattle.std.proofs.Common.{rules, ◌≡◌, ℕ, ◌+◌, ◌<◌, ◌≤◌, nat_le, ◌-◌, ◌*◌, length, ◌/◌, ◌%◌, Bool, true, false, nat_eq, nat_lt, List, [], ◌∷◌, ◌++◌, slice_index_or, slice_set, bit_and, bit_or, Fits, w8, w32, w64, Bor, MutBor}
-use Rattle.arm.specs.Turns.{swing_of}
-use Rattle.turning.specs.Motions.{joint_at}
-use Rattle.walls.specs.Arcs.{in_arc}
-use Rattle.arm_checkers.specs.First.{first_from}
-use Rattle.arm_checkers.specs.Joints.{part_done, joint_angle, angle_after}
+use Rattle.std.proofs.Common.{◌*◌, sym, ap, ◌∙◌, arith}
+use Rattle.arm_checkers.proofs.OfJoints.{never, late, soon}
 use Rattle.arm_checkers.proofs.joint.Joint.first_done.Goals as goal
 
--- src/joint.rt:81:13
 pub returns-then-size-eq0 : goal.returns-then-size-eq0
-returns-then-size-eq0 c = ?
+returns-then-size-eq0 c = never c.args.self.now c.args.part c.args.last c.requires.some (sym c.from-size.ensures ∙ c.if-size-eq0.true)
 
--- src/joint.rt:90:13
 pub returns-then-size-from : goal.returns-then-size-from
-returns-then-size-from c = ?
+returns-then-size-from c = late c.args.self.now c.args.part c.args.last c.requires.some _ _ c.from-size.ensures c.if-size-eq0.false c.short_of-short.ensures (omega (arith, ap (λ l. c.from-size.result * l) c.from.ensures))
 
--- src/joint.rt:73:5
 pub returns : goal.returns
-returns c = ?
+returns c = soon c.args.self.now c.args.part c.args.last c.requires.some _ _ c.from-size.ensures c.if-size-eq0.false c.short_of-short.ensures (omega (arith, ap (λ l. c.from-size.result * l) c.from.ensures))
