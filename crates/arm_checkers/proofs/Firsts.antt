@@ -1,6 +1,7 @@
 -- The first of some steps at which something is true. Assumes nothing.
-use Rattle.std.proofs.Common.{◌≡◌, ℕ, zero, suc, ◌+◌, ◌-◌, ◌<◌, ◌≤◌, Bool, true, false, cond, Option, None, Some, sym, refl, ap, ◌∙◌, subst, ⊎_elim, arith}
-use Rattle.std.specs.List.{find, range_with_len}
+use Rattle.std.proofs.Common.{◌≡◌, ℕ, zero, suc, ◌+◌, ◌-◌, ◌<◌, ◌≤◌, Bool, true, false, not, ◌&&◌, cond, List, [], ◌∷◌, Option, None, Some, sym, refl, ap, ◌∙◌, subst, ⊎_elim, arith}
+use Rattle.std.specs.Prelude.{is_none}
+use Rattle.std.specs.List.{find, range_with_len, list_all}
 use Rattle.std.proofs.lemmas.Bool.{cases_lt}
 use Rattle.arm_checkers.specs.First.{first_from}
 
@@ -76,3 +77,21 @@ module _ (p : ℕ → Bool) where
   some_first from last t e =
       let r = found_some (suc last - from) from t e in
       record { begun = r.0; ended = omega arith; here = r.2; before = r.3 }
+
+-- two tests that agree
+find_same : (p q : ℕ → Bool) → ((s : ℕ) → p s ≡ q s) → (xs : List ℕ) → find p xs ≡ find q xs
+find_same p q same [] = refl
+find_same p q same (x ∷ xs) = ap (λ b. cond b (Some x) (find p xs)) (same x) ∙ ap (λ r. cond (q x) (Some x) r) (find_same p q same xs)
+
+pub first_same : (p q : ℕ → Bool) (from last : ℕ) → ((s : ℕ) → p s ≡ q s) → first_from p from last ≡ first_from q from last
+unfolding first_from
+first_same p q from last same = find_same p q same (range_with_len from (suc last - from))
+
+none_found : (p : ℕ → Bool) (xs : List ℕ) → is_none (find p xs) ≡ list_all (λ x. not (p x)) xs
+none_found p [] = refl
+none_found p (x ∷ xs) = elim (p x) as (λ b. is_none (cond b (Some x) (find p xs)) ≡ (not b && list_all (λ y. not (p y)) xs)) [ true ↦ refl | false ↦ none_found p xs ]
+
+-- none of the steps from 0 on
+pub none_all : (p : ℕ → Bool) (last : ℕ) → is_none (first_from p 0 last) ≡ list_all (λ t. not (p t)) (range_with_len 0 (last + 1))
+unfolding first_from
+none_all p last = none_found p (range_with_len 0 (suc last - 0)) ∙ ap (λ n. list_all (λ t. not (p t)) (range_with_len 0 n)) (omega arith)

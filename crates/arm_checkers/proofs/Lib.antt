@@ -2,3 +2,5 @@ pub mod Contained
 pub mod Firsts
 pub mod Parts
 pub mod OfJoints
+pub mod Ways
+pub mod Walls
