@@ -1,5 +1,5 @@
 -- What is done of a joint's turn at a step, and where the joint then is. Assumes nothing.
-use Rattle.std.proofs.Common.{◌≡◌, ℕ, zero, suc, ◌+◌, ◌-◌, ◌*◌, ◌/◌, ◌%◌, ◌<◌, ◌≤◌, Bool, true, false, cond, leb, Option, None, Some, pos, ◌+ℤ◌, ◌-ℤ◌, nat_abs, sym, refl, ap, ◌∙◌, ⊎_elim, zero-mul, mul_comm, mul-le-mul_left, add-one, arith}
+use Rattle.std.proofs.Common.{◌≡◌, ℕ, zero, suc, ◌+◌, ◌-◌, ◌*◌, ◌/◌, ◌%◌, ◌<◌, ◌≤◌, Bool, true, false, leb, None, Some, pos, ◌+ℤ◌, nat_abs, sym, refl, ap, ◌∙◌, ⊎_elim, zero-mul, mul_comm, mul-le-mul_left, arith}
 use native.Mathlib.Nat.{le-div_iff_mul-le, div-lt_iff_lt-mul}
 use Rattle.std.proofs.lemmas.Bool.{cases_lt, leb-true, leb-false, le-leb, lt-leb}
 use Rattle.turning.specs.Circle.{wrap, ahead}
@@ -9,7 +9,7 @@ use Rattle.arm_checkers.specs.declared.joint.Joint.{Joint}
 use Rattle.arm_checkers.specs.First.{first_from}
 use Rattle.arm_checkers.specs.Joints.{directed, part_done, joint_angle, angle_after, short, way_left}
 use Rattle.arm_checkers.proofs.Firsts.{IsFirst, first_none, first_some, none_each, some_first}
-use Rattle.arm_checkers.proofs.Parts.{part, turned_part, directed_size, part_none, part_grows, part_slow, some_steps, reached, unreached}
+use Rattle.arm_checkers.proofs.Parts.{part, turned_part, directed_size, part_none, part_grows, part_slow, reached, unreached}
 
 pub part_is : (j : Joint) (t : ℕ) → part_done j t ≡ part j.upward j.size j.steps t
 unfolding part_done

@@ -1,8 +1,7 @@
 -- How much of a turn is done at a step, whichever way the joint goes. Assumes nothing.
-use Rattle.std.proofs.Common.{◌≡◌, ℕ, zero, suc, ◌+◌, ◌-◌, ◌*◌, ◌/◌, ◌%◌, ◌<◌, ◌≤◌, min, Bool, true, false, cond, ℤ, pos, negsuc, ◌*ℤ◌, neg_ℤ, nat_abs, sym, refl, ap, ◌∙◌, ⊎_elim, mod-lt, add-mul, suc-mul, mul-le-mul, mul-le-mul_left, mul-add, mul-zero, zero-mul, lt_of_mul-lt-mul_right, div-add-mod', arith}
+use Rattle.std.proofs.Common.{◌≡◌, ℕ, zero, suc, ◌+◌, ◌-◌, ◌*◌, ◌/◌, ◌<◌, ◌≤◌, Bool, true, false, cond, pos, neg_ℤ, nat_abs, sym, refl, ap, ◌∙◌, ⊎_elim, mod-lt, add-mul, suc-mul, mul-le-mul, mul-le-mul_left, mul-add, mul-zero, zero-mul, lt_of_mul-lt-mul_right, div-add-mod', arith}
 use native.Mathlib.Nat.{le-div_iff_mul-le, zero-div, div-lt_iff_lt-mul}
 use Rattle.std.specs.Int.{div_ceil}
-use Rattle.std.proofs.lemmas.Int.{ints}
 use Rattle.std.proofs.lemmas.Bool.{cases_lt}
 use Rattle.turning.specs.Circle.{floor}
 use Rattle.turning.specs.Motions.{turned}

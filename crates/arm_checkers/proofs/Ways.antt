@@ -1,5 +1,5 @@
 -- A pose of a motion in a wall, joint by joint, and a motion in one of many walls. Assumes nothing.
-use Rattle.std.proofs.Common.{◌≡◌, ℕ, ◌+◌, ◌<◌, ◌≤◌, Bool, true, false, length, get_or, None, Some, sym, refl, ap, ◌∙◌, ⊎_elim, arith}
+use Rattle.std.proofs.Common.{◌≡◌, ℕ, ◌<◌, Bool, true, false, length, get_or, None, Some, sym, refl, ap, ◌∙◌, ⊎_elim}
 use Rattle.std.proofs.lemmas.Bool.{cases_lt, both_ways}
 use Rattle.std.proofs.lemmas.List.{get_or-map}
 use Rattle.arm.specs.declared.Arm.{Arm}
@@ -12,7 +12,7 @@ use Rattle.arm_checkers.specs.declared.way.Way.{Way}
 use Rattle.arm_checkers.specs.First.{first_from}
 use Rattle.arm_checkers.specs.Joints.{joint_angle}
 use Rattle.arm_checkers.specs.Meetings.{way_pose}
-use Rattle.arm_checkers.proofs.Firsts.{IsFirst, first_none, first_some, none_each, some_first}
+use Rattle.arm_checkers.proofs.Firsts.{IsFirst, first_none, none_each, some_first}
 
 -- one joint outside its arc is enough
 pub one_out : (w : Wall) (e : Arm) (i : ℕ) → i < 6 → joint_in w e i ≡ false → in_wall w e ≡ false

@@ -1,8 +1,8 @@
-use Rattle.std.proofs.Common.{◌≡◌, ℕ, ◌*◌, ◌/◌, ◌<◌, true, false, sym, ap, ◌∙◌, arith}
+use Rattle.std.proofs.Common.{◌≡◌, ℕ, ◌*◌, ◌/◌, ◌<◌, true, false, sym, ◌∙◌}
 use Rattle.std.specs.Int.{div_ceil}
 use Rattle.arm_checkers.specs.declared.joint.Joint.{Joint}
 use Rattle.arm_checkers.specs.Joints.{part_done}
-use Rattle.arm_checkers.proofs.Parts.{part, part_up, part_down, part_none, part_bound, some_steps}
+use Rattle.arm_checkers.proofs.Parts.{part_up, part_down, part_none, some_steps}
 use Rattle.arm_checkers.proofs.OfJoints.{part_is}
 use Rattle.arm_checkers.proofs.joint.Joint.done.Goals as goal
 

@@ -1,4 +1,4 @@
-use Rattle.std.proofs.Common.{◌≡◌, ℕ, ◌+◌, ◌%◌, leb, sym, ap, ◌∙◌, arith}
+use Rattle.std.proofs.Common.{leb, ap, ◌∙◌, arith}
 use Rattle.turning.specs.Circle.{ahead}
 use Rattle.arm_checkers.specs.First.{first_from}
 use Rattle.arm_checkers.specs.Joints.{part_done, angle_after}

@@ -1,10 +1,10 @@
-use Rattle.std.proofs.Common.{◌≡◌, ℕ, zero, suc, ◌+◌, ◌%◌, ℤ, pos, negsuc, ◌+ℤ◌, nat_abs, cond, neg_ℤ, sym, refl, ap, ◌∙◌, arith, w32, to_z, of_z}
+use Rattle.std.proofs.Common.{◌≡◌, ℕ, ◌%◌, ℤ, pos, negsuc, ◌+ℤ◌, nat_abs, cond, neg_ℤ, refl, ap, ◌∙◌, arith, w32}
 use lib.Signed.{le_z}
 use Rattle.std.proofs.lemmas.Bool.{le-leb}
 use Rattle.std.proofs.lemmas.Int.{to_z-of_z}
 use Rattle.turning.specs.Circle.{wrap}
 use Rattle.turning.specs.Motions.{turned, joint_at}
-use Rattle.arm.specs.Turns.{turn_of, swing_of}
+use Rattle.arm.specs.Turns.{swing_of}
 use Rattle.arm_checkers.specs.Joints.{directed, joint_angle}
 use Rattle.arm_checkers.proofs.joint.Joint.new.Goals as goal
 

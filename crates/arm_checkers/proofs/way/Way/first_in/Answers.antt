@@ -1,6 +1,6 @@
-use Rattle.std.proofs.Common.{◌≡◌, ℕ, ◌+◌, ◌<◌, ◌≤◌, sym, ap, ◌∙◌, subst, ⊎_elim, arith, rules}
+use Rattle.std.proofs.Common.{◌≡◌, sym, ap, ◌∙◌, ⊎_elim, arith, rules}
 use Rattle.std.proofs.lemmas.Bool.{cases_lt}
-use Rattle.walls.specs.Walls.{joint_in, in_wall}
+use Rattle.walls.specs.Walls.{joint_in}
 use Rattle.arm_checkers.specs.Meetings.{way_pose}
 use Rattle.arm_checkers.proofs.Firsts.{first_some}
 use Rattle.arm_checkers.proofs.Ways.{all_in, never_met, asked, passed_over, comes}

@@ -1,4 +1,4 @@
-use Rattle.std.proofs.Common.{◌≡◌, ℕ, List, map, sym, ap, ◌∙◌, arith}
+use Rattle.std.proofs.Common.{◌≡◌, ℕ, List, map, ap, ◌∙◌, arith}
 use Rattle.turning.specs.Motions.{stands, joints, pose_at, steps_of}
 use Rattle.turning.proofs.Reversal.{swing_within}
 use Rattle.arm_checkers.specs.Meetings.{way_pose}
