@@ -5,6 +5,9 @@ ghost use Rattle.std.specs.Prelude.{◌≡◌, ℕ, ◌+◌, ◌<◌, ◌≤◌,
 use arm::turn;
 use walls::Arc;
 
+// A full turn.
+const FULL: u16 = 4096;
+
 // Where the joint starts, whether it goes up, how far it turns in all, and in how many steps.
 #[derive(Clone, Copy)]
 pub struct Joint {
@@ -32,15 +35,15 @@ impl Joint {
     {
         let turn = turn(from, to);
         Joint {
-            start: from % 4096,
+            start: from % FULL,
             upward: turn >= 0,
             size: turn.unsigned_abs() as u16,
             steps,
         }
     }
 
-    // How much of the turn is done at a step, whichever way it goes. Of a turn down what is left is
-    // rounded down, so what is done is rounded up.
+    // How much of the turn is done at a step, whichever way it goes. Angles are rounded down, so of
+    // a turn down what is done is rounded up.
     fn done(&self, step: u16) -> u32
         ensures value { result ≡ part_done self.now step }
         ensures bound { result ≤ step }
@@ -61,15 +64,16 @@ impl Joint {
     fn angle_after(&self, done: u32) -> u16
         ensures { result ≡ angle_after self.now done }
     {
-        let way = (done % 4096) as u16;
+        let way = (done % u32::from(FULL)) as u16;
         if self.upward {
-            (self.start + way) % 4096
+            (self.start + way) % FULL
         } else {
-            (self.start + (4096 - way)) % 4096
+            (self.start + (FULL - way)) % FULL
         }
     }
 
-    // The greatest product of size and step at which less than this part of the turn is done.
+    // The greatest product of size and step at which less than this part of the turn is done. A part
+    // is at most what can be done by a step of 16 bits, and a full turn more.
     fn short_of(&self, part: u32) -> u32
         requires some { 0 < part }
         requires small { part ≤ 65535 + 4096 }
@@ -101,8 +105,8 @@ impl Joint {
         Some((short / size + 1) as u16)
     }
 
-    // How far the joint has to go to an arc that it is outside of: up to its start, or down to its
-    // end. It is so far ahead of the arc's start.
+    // How far the joint has to go to an arc of this extent, when it is so far ahead of the arc's
+    // start and outside: up to the start, or down to the end.
     fn way_to(&self, extent: u16, ahead: u16) -> u16
         requires outside { extent < ahead }
         requires round { ahead < 4096 }
@@ -111,20 +115,21 @@ impl Joint {
         ensures round { result ≤ 4096 }
     {
         if self.upward {
-            4096 - ahead
+            FULL - ahead
         } else {
             ahead - extent
         }
     }
 
-    // The first step from one on, up to the last, at which the joint is in an arc.
+    // The first step from one on, up to the last, at which the joint is in an arc: that step itself,
+    // or the first at which so much of the turn is done that it has come to the arc.
     pub fn first_in(&self, arc: &Arc, from: u16, last: u16) -> Option<u16>
         requires { from ≤ last }
         ensures { result ≡ first_from (λ t. in_arc arc.now (joint_angle self.now t)) from last }
     {
         let done = self.done(from);
         let ahead = arc.ahead(self.angle_after(done));
-        let extent = arc.extent % 4096;
+        let extent = arc.extent % FULL;
         if ahead <= extent {
             return Some(from);
         }

@@ -11,7 +11,7 @@ pub struct Arc {
 }
 
 impl Arc {
-    // How far an angle lies ahead of the arc's start, going up.
+    /// How far an angle lies ahead of the arc's start, going up: from 0 to 4,095.
     pub fn ahead(&self, angle: u16) -> u16
         ensures value { result ≡ ahead self.now.start angle }
         ensures round { result < 4096 }
