@@ -1,5 +1,5 @@
 -- What is done of a joint's turn at a step, and where the joint then is. Assumes nothing.
-use Rattle.std.proofs.Common.{◌≡◌, ℕ, zero, suc, ◌+◌, ◌-◌, ◌*◌, ◌/◌, ◌%◌, ◌<◌, ◌≤◌, Bool, true, false, leb, None, Some, pos, ◌+ℤ◌, nat_abs, sym, refl, ap, ◌∙◌, ⊎_elim, zero-mul, mul_comm, mul-le-mul_left, arith}
+use Rattle.std.proofs.Common.{◌≡◌, ℕ, zero, suc, ◌+◌, ◌-◌, ◌*◌, ◌/◌, ◌%◌, ◌<◌, ◌≤◌, Bool, true, false, leb, None, Some, pos, ◌+ℤ◌, nat_abs, sym, refl, ap, ◌∙◌, ⊎_elim, mul_comm, mul-le-mul_left, arith}
 use native.Mathlib.Nat.{le-div_iff_mul-le, div-lt_iff_lt-mul}
 use Rattle.std.proofs.lemmas.Bool.{cases_lt, leb-true, leb-false, le-leb, lt-leb}
 use Rattle.turning.specs.Circle.{wrap, ahead}
@@ -9,7 +9,7 @@ use Rattle.arm_checkers.specs.declared.joint.Joint.{Joint}
 use Rattle.arm_checkers.specs.First.{first_from}
 use Rattle.arm_checkers.specs.Joints.{directed, part_done, joint_angle, angle_after, short, way_left}
 use Rattle.arm_checkers.proofs.Firsts.{IsFirst, first_none, first_some, none_each, some_first}
-use Rattle.arm_checkers.proofs.Parts.{part, turned_part, directed_size, part_none, part_grows, part_slow, reached, unreached}
+use Rattle.arm_checkers.proofs.Parts.{part, turned_part, directed_size, part_whole, part_grows, part_slow, reached, unreached}
 
 pub part_is : (j : Joint) (t : ℕ) → part_done j t ≡ part j.upward j.size j.steps t
 unfolding part_done
@@ -44,12 +44,12 @@ module _ (j : Joint) (k last : ℕ) (some : 0 < k) where
   not_yet : (t : ℕ) → 0 < j.steps → j.size * t ≤ short j.upward j.steps k → enough t ≡ false
   not_yet t many l = lt-leb k (part_done j t) (omega (arith, part_is j t, unreached j.upward j.size j.steps t k many some l))
 
-  pub never : j.size ≡ 0 → None ≡ first_from enough 0 last
-  never none = sym (first_none enough 0 last (λ t l h. lt-leb k (part_done j t) (omega (arith, part_is j t, part_none j.upward j.size j.steps t (ap (λ s. s * t) none ∙ zero-mul t)))))
+  pub never : last ≤ j.steps → j.size < k → None ≡ first_from enough 0 last
+  never within more = sym (first_none enough 0 last (λ t l h. lt-leb k (part_done j t) (omega (arith, part_is j t, part_whole j.upward j.size j.steps t (omega arith)))))
 
-  module _ (size limit : ℕ) (is : size ≡ j.size) (moves : size ≡ 0 → ⊥) (limited : limit ≡ short j.upward j.steps k) where
+  module _ (size limit : ℕ) (is : size ≡ j.size) (whole : k ≤ size) (limited : limit ≡ short j.upward j.steps k) where
     some_size : 0 < size
-    some_size = ⊎_elim (λ h. h) (λ h. absurd (moves (omega arith))) (cases_lt 0 size)
+    some_size = omega arith
 
     many : 0 < j.steps
     many = let slow = j.slow in omega (arith, some_size)

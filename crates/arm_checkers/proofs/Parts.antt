@@ -139,3 +139,16 @@ part_bound upward size n (suc t) l =
     let e : t + 1 ≡ suc t = omega arith in
     let slow = rw e at (part_slow upward size n t l) in
     omega arith
+
+-- nor is the whole turn overdone
+pub part_whole : (upward : Bool) (size n t : ℕ) → t ≤ n → part upward size n t ≤ size
+part_whole upward size zero t l = omega (arith, part_still upward size t)
+part_whole upward size (suc n) t l =
+    let less = mul-le-mul_left size l in
+    let next = short_of_whole upward size (suc n) (omega arith) in
+    let below = unreached upward size (suc n) t (size + 1) (omega arith) (omega arith) (omega arith) in
+    omega arith
+  where
+    short_of_whole : (upward : Bool) (size n : ℕ) → 0 < n → size * n ≤ short upward n (size + 1)
+    short_of_whole true size n h = omega (arith, add-mul size 1 n)
+    short_of_whole false size n h = let back : size + 1 - 1 ≡ size = omega arith in omega (arith, ap (λ x. x * n) back)

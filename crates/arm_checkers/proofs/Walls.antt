@@ -66,11 +66,8 @@ module _ (e f : Arm) where
     unfolding first_met_of
     way_met_of walls = ap (first_from (λ t. not (outside walls (way_pose way t))) 0) steps ∙ first_same _ _ 0 (steps_of e f) (λ t. ap (λ x. not (outside walls x)) (poses t))
 
--- the first step so far of those at which p is true, and the last at which q is asked, since no later one counts
-module _ (p q : ℕ → Bool) (n last : ℕ) (first : Option ℕ) (known : first ≡ first_from p 0 n) (until : last ≡ unwrap_or first n) where
-  abbrev either : ℕ → Bool
-  either t = p t || q t
-
+-- the first step so far at which p is true, and the last step that counts from now on
+module _ (p : ℕ → Bool) (n last : ℕ) (first : Option ℕ) (known : first ≡ first_from p 0 n) (until : last ≡ unwrap_or first n) where
   pub in_time : last ≤ n
   in_time = elim first as (λ r. r ≡ first_from p 0 n → last ≡ unwrap_or r n → last ≤ n) [
     | None ↦ λ k u. omega arith
@@ -83,21 +80,26 @@ module _ (p q : ℕ → Bool) (n last : ℕ) (first : Option ℕ) (known : first
     | Some t ↦ λ k u. let f = some_first p 0 n t (sym k) in f.before s (omega arith) (omega arith)
   ] known until
 
-  -- q is true at one of them
-  pub sooner : (t : ℕ) → Some t ≡ first_from q 0 last → Some t ≡ first_from either 0 n
-  sooner t e =
-      let f = some_first q 0 last t (sym e) in
-      sym (first_some either 0 n t (omega arith) (omega (arith, in_time, f.ended)) (ap (λ b. p t || b) f.here ∙ or-true (p t))
-      (λ s l h. ap (λ b. b || q s) (not_yet s (omega (arith, f.ended))) ∙ f.before s l h))
+  -- q is asked at the steps that count
+  module _ (q : ℕ → Bool) where
+    abbrev either : ℕ → Bool
+    either t = p t || q t
 
-  -- or at none
-  pub no_sooner : None ≡ first_from q 0 last → first ≡ first_from either 0 n
-  no_sooner e = elim first as (λ r. r ≡ first_from p 0 n → last ≡ unwrap_or r n → r ≡ first_from either 0 n) [
-    | None ↦ λ k u. sym (first_none either 0 n (λ s l h. ap (λ b. b || q s) (none_each p 0 n (sym k) s l h) ∙ none_each q 0 last (sym e) s l (omega arith)))
-    | Some t ↦ λ k u.
-        let f = some_first p 0 n t (sym k) in
-        sym (first_some either 0 n t (omega arith) f.ended (ap (λ b. b || q t) f.here) (λ s l h. ap (λ b. b || q s) (f.before s l h) ∙ none_each q 0 last (sym e) s l (omega arith)))
-  ] known until
+    -- it is true at one of them
+    pub sooner : (t : ℕ) → Some t ≡ first_from q 0 last → Some t ≡ first_from either 0 n
+    sooner t e =
+        let f = some_first q 0 last t (sym e) in
+        sym (first_some either 0 n t (omega arith) (omega (arith, in_time, f.ended)) (ap (λ b. p t || b) f.here ∙ or-true (p t))
+        (λ s l h. ap (λ b. b || q s) (not_yet s (omega (arith, f.ended))) ∙ f.before s l h))
+
+    -- or at none
+    pub no_sooner : None ≡ first_from q 0 last → first ≡ first_from either 0 n
+    no_sooner e = elim first as (λ r. r ≡ first_from p 0 n → last ≡ unwrap_or r n → r ≡ first_from either 0 n) [
+      | None ↦ λ k u. sym (first_none either 0 n (λ s l h. ap (λ b. b || q s) (none_each p 0 n (sym k) s l h) ∙ none_each q 0 last (sym e) s l (omega arith)))
+      | Some t ↦ λ k u.
+          let f = some_first p 0 n t (sym k) in
+          sym (first_some either 0 n t (omega arith) f.ended (ap (λ b. b || q t) f.here) (λ s l h. ap (λ b. b || q s) (f.before s l h) ∙ none_each q 0 last (sym e) s l (omega arith)))
+    ] known until
 
 -- one more wall
 pub outside_more : (walls : List Wall) (i : ℕ) (d : Wall) (e : Arm) → i < length walls → not (outside (take (i + 1) walls) e) ≡ (not (outside (take i walls) e) || in_wall (get_or walls i d) e)
@@ -125,10 +127,10 @@ module _ (way : Way) (walls : List Wall) (i : ℕ) (d : Wall) (low : i < length 
   this t = in_wall (get_or walls i d) (way_pose way t)
 
   pub wall_sooner : (t : ℕ) → Some t ≡ first_from this 0 last → Some t ≡ first_from with_it 0 way.steps
-  wall_sooner t e = sooner _ this way.steps last first known until t e ∙ sym (first_same _ _ 0 way.steps (λ s. outside_more walls i d (way_pose way s) low))
+  wall_sooner t e = sooner _ way.steps last first known until this t e ∙ sym (first_same _ _ 0 way.steps (λ s. outside_more walls i d (way_pose way s) low))
 
   pub wall_no_sooner : None ≡ first_from this 0 last → first ≡ first_from with_it 0 way.steps
-  wall_no_sooner e = no_sooner _ this way.steps last first known until e ∙ sym (first_same _ _ 0 way.steps (λ s. outside_more walls i d (way_pose way s) low))
+  wall_no_sooner e = no_sooner _ way.steps last first known until this e ∙ sym (first_same _ _ 0 way.steps (λ s. outside_more walls i d (way_pose way s) low))
 
 pub no_walls : (way : Way) (walls : List Wall) → None ≡ first_from (λ t. not (outside (take 0 walls) (way_pose way t))) 0 way.steps
 no_walls way walls = sym (first_none _ 0 way.steps (λ s l h. outside_none (way_pose way s)))

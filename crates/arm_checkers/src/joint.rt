@@ -31,7 +31,8 @@ impl Joint {
     pub fn new(from: u16, to: u16, steps: u16) -> Joint
         requires slow { swing_of from to ≤ steps }
         requires few { steps ≤ 2048 }
-        ensures { (t : ℕ) → joint_angle result t ≡ joint_at from to steps t }
+        ensures angles { (t : ℕ) → joint_angle result t ≡ joint_at from to steps t }
+        ensures steps { result.steps ≡ steps }
     {
         let turn = turn(from, to);
         Joint {
@@ -72,12 +73,10 @@ impl Joint {
         }
     }
 
-    // The greatest product of size and step at which less than this part of the turn is done. A part
-    // is at most what can be done by a step of 16 bits, and a full turn more.
+    // The greatest product of size and step at which less than this part of the turn is done.
     fn short_of(&self, part: u32) -> u32
         requires some { 0 < part }
-        requires small { part ≤ 65535 + 4096 }
-        requires many { 0 < self.now.steps }
+        requires whole { part ≤ self.now.size }
         ensures { result ≡ short self.now.upward self.now.steps part }
     {
         let steps = u32::from(self.steps);
@@ -88,14 +87,15 @@ impl Joint {
         }
     }
 
-    // The first step, up to the last, at which at least this part of the turn is done.
+    // The first step, up to the last, at which at least this part of the turn is done. More than the
+    // whole turn never is.
     fn first_done(&self, part: u32, last: u16) -> Option<u16>
         requires some { 0 < part }
-        requires small { part ≤ 65535 + 4096 }
+        requires within { last ≤ self.now.steps }
         ensures { result ≡ first_from (λ t. nat_le part (part_done self.now t)) 0 last }
     {
         let size = u32::from(self.size);
-        if size == 0 {
+        if part > size {
             return None;
         }
         let short = self.short_of(part);
@@ -124,7 +124,8 @@ impl Joint {
     // The first step from one on, up to the last, at which the joint is in an arc: that step itself,
     // or the first at which so much of the turn is done that it has come to the arc.
     pub fn first_in(&self, arc: &Arc, from: u16, last: u16) -> Option<u16>
-        requires { from ≤ last }
+        requires ahead { from ≤ last }
+        requires within { last ≤ self.now.steps }
         ensures { result ≡ first_from (λ t. in_arc arc.now (joint_angle self.now t)) from last }
     {
         let done = self.done(from);

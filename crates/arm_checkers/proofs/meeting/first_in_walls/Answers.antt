@@ -4,12 +4,15 @@ use Rattle.std.proofs.lemmas.List.{take_all}
 use Rattle.arm_checkers.specs.First.{first_from}
 use Rattle.arm_checkers.specs.Meetings.{way_pose}
 use Rattle.arm_checkers.specs.Passes.{outside}
-use Rattle.arm_checkers.proofs.Walls.{passes_all, way_met_of, wall_sooner, wall_no_sooner, no_walls}
+use Rattle.arm_checkers.proofs.Walls.{in_time, passes_all, way_met_of, wall_sooner, wall_no_sooner, no_walls}
 use Rattle.arm_checkers.proofs.meeting.first_in_walls.Goals as goal
 use Rattle.arm_checkers.proofs.meeting.first_in_walls.Goals.{in-Some, in_default}
 
 pub loop-wall-init : goal.loop-wall-init
 loop-wall-init c = record { met = no_walls c.new-way.result c.args.walls.now; counts = refl }
+
+pub first_in-requires-clause-within : goal.first_in-requires-clause-within
+first_in-requires-clause-within c = in_time _ c.new-way.result.steps c.loop-wall.last c.loop-wall.first c.loop-wall.invariant.met c.loop-wall.invariant.counts
 
 pub loop-wall-preserved : goal.loop-wall-preserved
 loop-wall-preserved c = elim c.match-first_in.branch [

@@ -8,7 +8,7 @@ use Rattle.arm_checkers.proofs.joint.Joint.first_in.Goals as goal
 pub returns-then-ahead-extent : goal.returns-then-ahead-extent
 returns-then-ahead-extent c =
     let here = c.ahead-ahead.ensures.value ∙ ap (ahead c.args.arc.now.start) (c.angle_after.ensures ∙ ap (angle_after c.args.self.now) c.done-done.ensures.value) in
-    at_once c.args.self.now c.args.arc.now.start c.args.arc.now.extent c.args.from c.args.last c.requires (omega (arith, here))
+    at_once c.args.self.now c.args.arc.now.start c.args.arc.now.extent c.args.from c.args.last c.requires.ahead (omega (arith, here))
 
 pub returns : goal.returns
 returns c =

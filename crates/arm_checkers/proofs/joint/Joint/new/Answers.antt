@@ -24,8 +24,8 @@ invariant_of-result c =
     let sized = c.unsigned_abs.ensures.value ∙ ap nat_abs same in
     record { round = omega arith; slow = omega (arith, sized); few = omega arith }
 
-pub returns : goal.returns
+pub returns-clause-angles : goal.returns-clause-angles
 unfolding joint_angle joint_at
-returns c =
+returns-clause-angles c =
     let same = to_z-of_z w32 _ (record { sfits = c.turn-turn.type_inv }) ∙ c.turn-turn.ensures.value in
     λ t. ap (λ d. wrap (pos (c.args.from % 4096) +ℤ turned d c.args.steps t)) (held _ _ _ same c.unsigned_abs.ensures.value)

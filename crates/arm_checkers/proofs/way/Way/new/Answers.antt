@@ -2,6 +2,7 @@ use Rattle.std.proofs.Common.{◌≡◌, ℕ, List, map, ap, ◌∙◌, arith}
 use Rattle.turning.specs.Motions.{stands, joints, pose_at, steps_of}
 use Rattle.turning.proofs.Reversal.{swing_within}
 use Rattle.arm_checkers.specs.Meetings.{way_pose}
+use Rattle.arm_checkers.proofs.Ways.{six_together}
 use Rattle.arm_checkers.proofs.way.Way.new.Goals as goal
 
 pub new-requires-clause-slow : goal.new-requires-clause-slow
@@ -26,4 +27,7 @@ pub returns-clause-poses : goal.returns-clause-poses
 unfolding way_pose pose_at
 returns-clause-poses c = λ t.
     let same : map (stands c.args.from.now c.args.to.now c.steps-steps.result t) joints ≡ map (stands c.args.from.now c.args.to.now (steps_of c.args.from.now c.args.to.now) t) joints = ap (λ n. map (stands c.args.from.now c.args.to.now n t) joints) c.steps-steps.ensures.value in
-    ap (λ (angles : List ℕ). record { angles = angles }) (cc (c.new.ensures t, c.new-2.ensures t, c.new-3.ensures t, c.new-4.ensures t, c.new-5.ensures t, c.new-6.ensures t)) ∙ ap (λ (angles : List ℕ). record { angles = angles }) same
+    ap (λ (angles : List ℕ). record { angles = angles }) (cc (c.new.ensures.angles t, c.new-2.ensures.angles t, c.new-3.ensures.angles t, c.new-4.ensures.angles t, c.new-5.ensures.angles t, c.new-6.ensures.angles t)) ∙ ap (λ (angles : List ℕ). record { angles = angles }) same
+
+pub returns-clause-together : goal.returns-clause-together
+returns-clause-together c = six_together _ _ _ _ _ _ _ c.new.ensures.steps c.new-2.ensures.steps c.new-3.ensures.steps c.new-4.ensures.steps c.new-5.ensures.steps c.new-6.ensures.steps
