@@ -1,1 +1,6 @@
 pub mod Contained
+pub mod Firsts
+pub mod Parts
+pub mod OfJoints
+pub mod Ways
+pub mod Walls

@@ -10,6 +10,12 @@ const EDGES: [u16; 16] = [
     0, 1, 2, 10, 2047, 2048, 2049, 4090, 4094, 4095, 4096, 4097, 6144, 8191, 40960, 65535,
 ];
 
+// What a joint is moved by in a short motion: nothing or a little, up and down.
+const NUDGES: [u16; 8] = [0, 1, 65535, 0, 2, 65533, 17, 65496];
+
+// And in a long one: half a turn or next to it.
+const HALVES: [u16; 4] = [2047, 2048, 2049, 63488];
+
 #[derive(Drop)]
 pub struct Cases {
     rolls: Rolls,
@@ -56,6 +62,69 @@ impl Cases {
                 self.number(),
             ],
         }
+    }
+
+    // Where a short motion takes an angle.
+    fn nudged(&mut self, angle: u16) -> u16 {
+        angle.wrapping_add(NUDGES[(self.rolls.next() % 8) as usize])
+    }
+
+    pub fn near(&mut self, pose: &Arm) -> Arm {
+        let from = pose.angles;
+        Arm {
+            angles: [
+                self.nudged(from[0]),
+                self.nudged(from[1]),
+                self.nudged(from[2]),
+                self.nudged(from[3]),
+                self.nudged(from[4]),
+                self.nudged(from[5]),
+            ],
+        }
+    }
+
+    // Where a long one does: one joint about half a turn on, two any way, and the others a little.
+    pub fn far(&mut self, pose: &Arm) -> Arm {
+        let from = pose.angles;
+        Arm {
+            angles: [
+                from[0].wrapping_add(HALVES[(self.rolls.next() % 4) as usize]),
+                self.number(),
+                self.nudged(from[2]),
+                self.number(),
+                self.nudged(from[4]),
+                self.nudged(from[5]),
+            ],
+        }
+    }
+
+    // A narrow arc that has the angle in it.
+    fn round(&mut self, angle: u16) -> Arc {
+        let back = (self.rolls.next() % 4) as u16;
+        Arc {
+            start: angle.wrapping_sub(back),
+            extent: back + (self.rolls.next() % 3) as u16,
+        }
+    }
+
+    // A narrow wall that has the pose in it.
+    pub fn wall_round(&mut self, pose: &Arm) -> Wall {
+        let at = pose.angles;
+        Wall {
+            arcs: [
+                self.round(at[0]),
+                self.round(at[1]),
+                self.round(at[2]),
+                self.round(at[3]),
+                self.round(at[4]),
+                self.round(at[5]),
+            ],
+        }
+    }
+
+    // A number below this one; 0 below 0.
+    pub fn below(&mut self, end: u16) -> u16 {
+        (self.rolls.next() % u32::from(end.max(1))) as u16
     }
 
     pub fn wall(&mut self) -> Wall {

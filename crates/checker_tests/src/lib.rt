@@ -5,15 +5,18 @@
 mod cases;
 #[cfg(test)]
 mod plain;
+#[cfg(test)]
+mod walk;
 
 #[cfg(test)]
 mod tests {
     use crate::cases::Cases;
-    use crate::plain;
+    use crate::{plain, walk};
     use arm::Arm;
-    use arm_checkers::{BoxChecker, StepChecker, both};
+    use arm_checkers::{BoxChecker, StepChecker, both, first_in_wall, first_in_walls};
     use card_checker::MixChecker;
     use checker::Checker;
+    use motion::{pose, steps};
     use std::process::Abort;
     use walls::Wall;
 
@@ -81,6 +84,46 @@ mod tests {
             }
         }
         assert!(rt; by_neither > 100 && by_step_alone > 10 && by_both > 100);
+    }
+
+    // Step and the first steps are those that a look at every pose gives.
+    fn finds(rt: &impl Abort, walls: &[Wall; 3], e: &Arm, f: &Arm) -> Option<u16> {
+        let first = walk::first_step(walls, e, f);
+        assert!(rt; first_in_walls(walls, e, f) == first);
+        assert!(rt; (StepChecker { walls }).check(e, f) == first.is_none());
+        for wall in walls {
+            assert!(rt; first_in_wall(wall, e, f) == walk::first_step(&[*wall], e, f));
+        }
+        first
+    }
+
+    #[test]
+    fn step_finds_what_a_look_at_every_pose_finds(rt: HostRuntime) {
+        let mut cases = Cases::new(23);
+        let mut never = 0u32;
+        let mut at_once = 0u32;
+        let mut later = 0u32;
+        for case in 0..2400 {
+            let e = cases.pose();
+            let f = if case % 12 == 0 {
+                cases.far(&e)
+            } else {
+                cases.near(&e)
+            };
+            let n = steps(&e, &f);
+            let t = cases.below(n);
+            let narrow = if case % 3 == 0 {
+                cases.wall()
+            } else {
+                cases.wall_round(&pose(&e, &f, t, n))
+            };
+            match finds(&rt, &[cases.wall(), narrow, cases.wall()], &e, &f) {
+                None => never = never.wrapping_add(1),
+                Some(0) => at_once = at_once.wrapping_add(1),
+                Some(_) => later = later.wrapping_add(1),
+            }
+        }
+        assert!(rt; never > 300 && at_once > 100 && later > 800);
     }
 
     #[test]

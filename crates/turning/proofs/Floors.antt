@@ -25,7 +25,7 @@ floor_neg zero m k n h e =
     ap pos (omega (arith, zero-div n))
 floor_neg (suc a) m k n h e = let b = shares a m k n h e in omega (arith, ints)
 
-neg_times : (p j : ℕ) → neg_ℤ (pos p) *ℤ pos j ≡ neg_ℤ (pos (p * j))
+pub neg_times : (p j : ℕ) → neg_ℤ (pos p) *ℤ pos j ≡ neg_ℤ (pos (p * j))
 neg_times zero j = let z = zero-mul j in rw z refl
 neg_times (suc p) j = refl
 

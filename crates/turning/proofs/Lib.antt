@@ -3,5 +3,4 @@ pub mod Floors
 pub mod Reversal
 pub mod Sweeps
 pub mod Machine
-pub mod Poses
 pub mod Made

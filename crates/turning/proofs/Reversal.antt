@@ -61,11 +61,11 @@ pose_back : (e f : Arm) (n t : ℕ) → steps_of e f ≤ n → t ≤ n → pose_
 unfolding pose_at
 pose_back e f n t s l = let same = joints_same (stands f e n (n - t)) (stands e f n t) (λ i h. joint_back _ _ n t (omega (arith, swing_within e f i h)) l) in ap (λ (angles : List ℕ). record { angles = angles }) same
 
-pub motion_length : (e f : Arm) → length (motion e f) ≡ steps_of e f + 1
+motion_length : (e f : Arm) → length (motion e f) ≡ steps_of e f + 1
 unfolding motion
 motion_length e f = length-map-range_with_len (pose_at e f (steps_of e f)) 0 (steps_of e f + 1)
 
-pub motion_at : (e f : Arm) (t : ℕ) (d : Arm) → t ≤ steps_of e f → get_or (motion e f) t d ≡ pose_at e f (steps_of e f) t
+motion_at : (e f : Arm) (t : ℕ) (d : Arm) → t ≤ steps_of e f → get_or (motion e f) t d ≡ pose_at e f (steps_of e f) t
 unfolding motion
 motion_at e f t d h = get_or-map-range_with_len (pose_at e f (steps_of e f)) 0 (steps_of e f + 1) t t d (omega arith) (omega arith)
 

@@ -1,5 +1,5 @@
 // An arc of the circle, of which 4,096 make a full turn.
-ghost use Rattle.std.specs.Prelude.{◌≡◌};
+ghost use Rattle.std.specs.Prelude.{◌≡◌, ◌<◌};
 ghost use Rattle.turning.specs.Circle.{ahead};
 ghost use Rattle.walls.specs.Arcs.{in_arc, meet};
 
@@ -10,19 +10,20 @@ pub struct Arc {
     pub extent: u16,
 }
 
-// How far one angle lies ahead of another, going up.
-fn gap(from: u16, to: u16) -> u16
-    ensures { result ≡ ahead from to }
-{
-    (to % 4096 + (4096 - from % 4096)) % 4096
-}
-
 impl Arc {
+    /// How far an angle lies ahead of the arc's start, going up: from 0 to 4,095.
+    pub fn ahead(&self, angle: u16) -> u16
+        ensures value { result ≡ ahead self.now.start angle }
+        ensures round { result < 4096 }
+    {
+        (angle % 4096 + (4096 - self.start % 4096)) % 4096
+    }
+
     // Whether an angle is in the arc.
     pub fn contains(&self, angle: u16) -> bool
         ensures { result ≡ in_arc self.now angle }
     {
-        gap(self.start, angle) <= self.extent % 4096
+        self.ahead(angle) <= self.extent % 4096
     }
 
     // Whether the arcs meet: one of them has the start of the other.

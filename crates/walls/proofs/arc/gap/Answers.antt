@@ -1,6 +1,0 @@
-use Rattle.std.proofs.Common.{sym}
-use Rattle.turning.proofs.Circles.{ahead_is}
-use Rattle.walls.proofs.arc.gap.Goals as goal
-
-pub returns : goal.returns
-returns c = sym (ahead_is c.args.from c.args.to)
