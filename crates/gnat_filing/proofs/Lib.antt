@@ -1,4 +1,5 @@
 pub mod Loops
+pub mod Columns
 pub mod Leaving
 pub mod Level
 pub mod Choices
