@@ -1,5 +1,4 @@
 pub mod Loops
-pub mod Columns
 pub mod Leaving
 pub mod Level
 pub mod Choices

@@ -1,13 +1,13 @@
 // Searching a GNAT that lies in lent rows, by a list of pending rows: no recursion, no allocation.
 #![tactic(auto)]
 
-ghost use Rattle.std.specs.Prelude.{◌≡◌, ◌+◌, ◌-◌, ◌<◌, ◌≤◌, List, ◌++◌, length};
+ghost use Rattle.std.specs.Prelude.{◌≡◌, ℕ, ◌+◌, ◌-◌, ◌<◌, ◌≤◌, List, ◌++◌, length};
 ghost use Rattle.arrayvec.specs.ArrayVec.{array_vec_len};
-ghost use Rattle.gnat_theory.specs.Searching.{State, counted_in, measure, outside as outside_of};
+ghost use Rattle.gnat_theory.specs.Searching.{State, counted_in, measure, outside};
 ghost use Rattle.gnat_theory.specs.Searching.Sight.{seen};
 ghost use Rattle.gnat_rows.specs.Shows.{sample_in, pivot_in};
 ghost use Rattle.gnat_search.specs.Wants.{want, Room, Counted, Kept, Steps, PivotCounted};
-ghost use Rattle.gnat_search.specs.Nodes.{HasRange, StruckMore, open_rows, LeafShown, BranchShown, Searchable, LeafMeasured, BranchSurveyed, Visited, Searched};
+ghost use Rattle.gnat_search.specs.Nodes.{IsAround, StruckMore, open_rows, LeafShown, BranchShown, Searchable, LeafMeasured, BranchSurveyed, Visited, Searched};
 
 mod found;
 
@@ -16,7 +16,6 @@ pub use found::Found;
 use gnat_rows::{Branch, Leaf, Node, Row};
 use hits::{Hit, place};
 use metric::Metric;
-use std::array;
 
 // The rows that can be pending at once: each holds a pivot of its own, and a tree has at most 1,024.
 const PENDING: usize = 1024;
@@ -87,39 +86,48 @@ impl Aim {
     }
 }
 
-// Whether the range of a pivot to a child has nothing within the radius: the pivot is at this distance.
-fn outside(branch: &Branch, child: usize, pivot: usize, distance: u32, radius: u32) -> bool
-    requires child { child < branch.now.count }
-    requires pivot { pivot < branch.now.count }
-    requires few { branch.now.count ≤ 8 }
-    ensures { HasRange branch.now child pivot (λ range. result ≡ outside_of distance radius range) }
-{
-    let distance = u64::from(distance);
-    let radius = u64::from(radius);
-    let low = u64::from(branch.low[child][pivot]);
-    let high = u64::from(branch.high[child][pivot]);
-    low > distance + radius || high + radius < distance
+// The distances from a pivot at which a sample could still count: those between the two, and these themselves.
+#[derive(Clone, Copy)]
+struct Band {
+    from: u32,
+    to: u32,
 }
 
-// Strikes the children that the ranges of a pivot show to be out of reach.
-fn strike(
-    struck: [bool; 8],
-    branch: &Branch,
-    pivot: usize,
-    distance: u32,
-    reach: Option<u32>,
-) -> [bool; 8]
+impl Band {
+    // That of samples within the radius of what is at this distance from the pivot.
+    fn around(distance: u32, radius: u32) -> Band
+        ensures { IsAround distance radius result }
+    {
+        Band {
+            from: distance.saturating_sub(radius),
+            to: distance.saturating_add(radius),
+        }
+    }
+
+    // Whether a range ends before the band or begins behind it.
+    fn misses(self, low: u32, high: u32) -> bool
+        ensures { (d R : ℕ) → IsAround d R self → result ≡ outside d R (record { low = low; high = high }) }
+    {
+        low > self.to || high < self.from
+    }
+}
+
+// Strikes the children that the ranges of a pivot show to be out of reach. All eight places are held against the ranges,
+// also those that have no child, so that it is done without a branch for each.
+fn strike(struck: &mut [bool; 8], branch: &Branch, pivot: usize, distance: u32, reach: Option<u32>)
     requires pivot { pivot < branch.now.count }
     requires few { branch.now.count ≤ 8 }
-    ensures { StruckMore branch.now pivot (seen distance reach) struck result }
+    ensures { StruckMore branch.now pivot (seen distance reach) struck.old struck.new }
 {
     let Some(radius) = reach else {
-        return struck;
+        return;
     };
-    let count = branch.count as usize;
-    array::from_fn(|child| {
-        struck[child] || child < count && outside(branch, child, pivot, distance, radius)
-    })
+    let band = Band::around(distance, radius);
+    let low = &branch.low[pivot];
+    let high = &branch.high[pivot];
+    for child in 0..8 {
+        struck[child] |= band.misses(low[child], high[child]);
+    }
 }
 
 // Puts the rows of the children that are not struck behind those that are pending, in order.
@@ -209,7 +217,7 @@ impl<'a, E: Metric> Quest<'a, E> {
                 let distance = self.q.distance(&row.element);
                 let counted = self.count_pivot(row, distance, list, so_far);
                 let within = self.aim.reach(list, counted);
-                struck = strike(struck, branch, i, distance, within);
+                strike(&mut struck, branch, i, distance, within);
                 so_far = counted;
             }
         }

@@ -1,6 +1,6 @@
-use Rattle.std.proofs.Common.{◌≡◌, ℕ, ◌<◌, ◌≢◌, length, get_or, set, sym, ap, ◌∙◌, subst, arith, length-set, get_or-set_other, get_or-set_same, below_more}
+use Rattle.std.proofs.Common.{◌≡◌, ◌<◌, ◌≢◌, length, get_or, set, sym, ap, ◌∙◌, subst, arith, length-set, get_or-set_other, get_or-set_same, below_more}
 use Rattle.gnat_rows.specs.Shows.{down}
-use Rattle.gnat_filing.proofs.Columns.{length_down, down_at, down_replaced, down_kept}
+use Rattle.gnat_rows.proofs.Columns.{length_down, down_at, down_replaced, down_kept}
 use Rattle.gnat_filing.proofs.widening.join_column.Goals as goal
 
 pub loop-i-preserved : goal.loop-i-preserved
