@@ -43,6 +43,7 @@ fn put_in_row(row: &mut [u32; 8], j: usize, value: u32)
 pub fn join_column<F: Fn(u32, u32) -> u32>(table: &mut [[u32; 8]; 8], j: usize, ds: &[u32], join: F)
     requires fits { (j < 8) × (length ds.now ≤ 8) }
     requires callable { F.IsAlwaysCallable join }
+    ensures eight { length table.new ≡ 8 }
     ensures each { (k : ℕ) → k < length ds.now → F.post join (slice_index (down table.old j) k) (slice_index ds.now k) (slice_index (down table.new j) k) }
     ensures others { (m : ℕ) → (m ≢ j) → down table.new m ≡ down table.old m }
 {

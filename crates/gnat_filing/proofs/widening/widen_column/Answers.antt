@@ -23,6 +23,6 @@ returns c =
       count = refl;
       pivots = refl;
       wide = wide_all n (down ls j) (down hs j) (down ls' j) (down hs' j) ds
-          (omega (arith, length_down ls j, a, c.requires.0)) (omega (arith, length_down hs j, b, c.requires.0)) (omega (arith, length_down ls' j, c.join_column.array_long, c.requires.0)) (omega (arith, length_down hs' j, c.join_column-2.array_long, c.requires.0)) (omega (arith, c.requires.2)) lower higher;
+          (omega (arith, length_down ls j, a, c.requires.0)) (omega (arith, length_down hs j, b, c.requires.0)) (omega (arith, length_down ls' j, L.eight, c.requires.0)) (omega (arith, length_down hs' j, H.eight, c.requires.0)) (omega (arith, c.requires.2)) lower higher;
       others = λ k ne. ap (λ (xs : List ℕ). ranges n xs (down hs' k)) (L.others k ne) ∙ ap (λ (xs : List ℕ). ranges n (down ls k) xs) (H.others k ne);
     }
