@@ -56,6 +56,10 @@ module _ {E : Type 0} (rows : List (Row E)) where
   abbrev pub Searchable : ℕ → Node → Type 0
   Searchable most n = (t : Tree E) × (fs : List ℕ) × Shows rows n t fs × (pivot_count t ≤ most)
 
+  -- in order, the distances from q to the leaf's samples
+  abbrev pub LeafDistances : (E → E → ℕ) → E → LeafRecord → List ℕ → Type 0
+  LeafDistances dist q l ds = (k : ℕ) → k < l.count → (r : Row E) → slice_get rows (slice_index l.rows k) ≡ Some r → slice_index ds k ≡ dist q r.element
+
   module _ (dist : E → E → ℕ) (q : E) (aim : Aim) where
     -- the samples that the leaf holds were measured
     abbrev pub LeafMeasured : LeafRecord → List Hit → List Hit → Found → Found → Type 0

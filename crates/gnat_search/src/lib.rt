@@ -3,11 +3,11 @@
 
 ghost use Rattle.std.specs.Prelude.{◌≡◌, ℕ, ◌+◌, ◌-◌, ◌<◌, ◌≤◌, List, ◌++◌, length};
 ghost use Rattle.arrayvec.specs.ArrayVec.{array_vec_len};
-ghost use Rattle.gnat_theory.specs.Searching.{State, counted_in, measure, outside};
+ghost use Rattle.gnat_theory.specs.Searching.{State, counted_in, outside};
 ghost use Rattle.gnat_theory.specs.Searching.Sight.{seen};
 ghost use Rattle.gnat_rows.specs.Shows.{sample_in, pivot_in};
-ghost use Rattle.gnat_search.specs.Wants.{want, Room, Counted, Kept, Steps, PivotCounted};
-ghost use Rattle.gnat_search.specs.Nodes.{IsAround, StruckMore, open_rows, LeafShown, BranchShown, Searchable, LeafMeasured, BranchSurveyed, Visited, Searched};
+ghost use Rattle.gnat_search.specs.Wants.{want, Room, Counted, Kept, Steps, SampleCounted, PivotCounted};
+ghost use Rattle.gnat_search.specs.Nodes.{IsAround, StruckMore, open_rows, LeafShown, BranchShown, Searchable, LeafDistances, LeafMeasured, BranchSurveyed, Visited, Searched};
 
 mod found;
 
@@ -155,15 +155,15 @@ struct Quest<'a, E> {
 }
 
 impl<'a, E: Metric> Quest<'a, E> {
-    // Measures the sample in a row.
-    fn measure_row(&self, row: &Row<E>, list: &mut [Hit], so_far: Found) -> Found
+    // Counts the sample in a row, which is at this distance.
+    fn count_sample(&self, row: &Row<E>, distance: u32, list: &mut [Hit], so_far: Found) -> Found
         requires { Room so_far 1 }
         ensures counts { Counted so_far result 1 }
-        ensures keeps { Steps (measure E.dist self.now.q.now (want self.now.aim (length list.old)) (sample_in row.now)) list.old list.new so_far result }
+        ensures keeps { SampleCounted E.dist distance (sample_in row.now) self.now.aim list.old list.new so_far result }
     {
         let hit = Hit {
             number: row.number,
-            distance: self.q.distance(&row.element),
+            distance,
         };
         self.aim.keep(list, so_far, hit)
     }
@@ -181,22 +181,31 @@ impl<'a, E: Metric> Quest<'a, E> {
                 measured: so_far.measured + 1,
             };
         }
-        let hit = Hit {
-            number: row.number,
-            distance,
-        };
-        self.aim.keep(list, so_far, hit)
+        self.count_sample(row, distance, list, so_far)
     }
 
-    // Measures the samples of a leaf.
+    // The distances of a leaf's samples, in order.
+    fn leaf_distances(&self, leaf: &Leaf) -> [u32; 32]
+        requires { LeafShown self.now.rows.now leaf.now }
+        ensures { LeafDistances self.now.rows.now E.dist self.now.q.now leaf.now result }
+    {
+        let mut distances = [0; 32];
+        for (i, at) in leaf.rows[..leaf.count as usize].iter().enumerate() {
+            distances[i] = self.q.distance(&self.rows[*at as usize].element);
+        }
+        distances
+    }
+
+    // Measures the samples of a leaf: all of them before one is counted, so that no distance waits for a hit to be placed.
     fn measure_leaf(&self, leaf: &Leaf, list: &mut [Hit], mut so_far: Found) -> Found
         requires shown { LeafShown self.now.rows.now leaf.now }
         requires room { Room so_far 32 }
         ensures counts { Counted so_far result 32 }
         ensures keeps { LeafMeasured self.now.rows.now E.dist self.now.q.now self.now.aim leaf.now list.old list.new so_far result }
     {
-        for at in &leaf.rows[..leaf.count as usize] {
-            so_far = self.measure_row(&self.rows[*at as usize], list, so_far);
+        let distances = self.leaf_distances(leaf);
+        for (i, at) in leaf.rows[..leaf.count as usize].iter().enumerate() {
+            so_far = self.count_sample(&self.rows[*at as usize], distances[i], list, so_far);
         }
         so_far
     }
