@@ -1,13 +1,7 @@
 -- The rows of open children, one by one. Assumes nothing.
-use Rattle.std.proofs.Common.{◌≡◌, ℕ, suc, ◌+◌, ◌-◌, ◌<◌, Bool, true, false, cond, List, [], ◌∷◌, ◌++◌, length, get_or, take, sym, ap, ◌∙◌, arith}
-use Rattle.std.proofs.lemmas.List.{append_assoc, length_push, take_at}
+use Rattle.std.proofs.Common.{◌≡◌, ℕ, suc, ◌+◌, ◌-◌, ◌<◌, Bool, true, false, cond, List, [], ◌∷◌, ◌++◌, get_or, sym, ap, ◌∙◌, arith}
+use Rattle.std.proofs.lemmas.List.{append_assoc}
 use Rattle.gnat_search.specs.Nodes.{open_rows}
-
--- what was put on last is taken back
-pub taken_back : (xs : List ℕ) (x : ℕ) (ys : List ℕ) → ys ≡ xs ++ (x ∷ []) → take (length ys - 1) ys ≡ xs
-taken_back xs x ys e =
-    let one : length ys ≡ length xs + 1 = ap length e ∙ length_push xs x in
-    ap (take (length ys - 1)) e ∙ take_at xs (x ∷ []) (length ys - 1) (omega arith)
 
 module _ (rows : List ℕ) (flags : List Bool) (i count : ℕ) (l : i < count) where
   step : open_rows rows flags i (count - i) ≡ cond (get_or flags i false) (open_rows rows flags (i + 1) (count - (i + 1))) (get_or rows i 0 ∷ open_rows rows flags (i + 1) (count - (i + 1)))

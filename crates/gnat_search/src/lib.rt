@@ -138,10 +138,8 @@ fn push_open(branch: &Branch, struck: &[bool; 8], pending: &mut ArrayVec<u16, PE
 {
     let pivots = &branch.pivots[..branch.count as usize];
     for (row, struck) in pivots.iter().zip(struck) {
-        // A struck child is put on the list and taken back: with no branch between the two nothing is guessed wrong.
-        pending.push(*row);
-        if *struck {
-            pending.pop();
+        if !*struck {
+            pending.push(*row);
         }
     }
 }
