@@ -184,16 +184,14 @@ impl<'a, E: Metric> Quest<'a, E> {
         self.count_sample(row, distance, list, so_far)
     }
 
-    // The distances of a leaf's samples, in order.
-    fn leaf_distances(&self, leaf: &Leaf) -> [u32; 32]
+    // Writes down the distances of a leaf's samples, in order.
+    fn measure_rows(&self, leaf: &Leaf, distances: &mut [u32; 32])
         requires { LeafShown self.now.rows.now leaf.now }
-        ensures { LeafDistances self.now.rows.now E.dist self.now.q.now leaf.now result }
+        ensures { LeafDistances self.now.rows.now E.dist self.now.q.now leaf.now distances.new }
     {
-        let mut distances = [0; 32];
         for (i, at) in leaf.rows[..leaf.count as usize].iter().enumerate() {
             distances[i] = self.q.distance(&self.rows[*at as usize].element);
         }
-        distances
     }
 
     // Measures the samples of a leaf: all of them before one is counted, so that no distance waits for a hit to be placed.
@@ -203,7 +201,8 @@ impl<'a, E: Metric> Quest<'a, E> {
         ensures counts { Counted so_far result 32 }
         ensures keeps { LeafMeasured self.now.rows.now E.dist self.now.q.now self.now.aim leaf.now list.old list.new so_far result }
     {
-        let distances = self.leaf_distances(leaf);
+        let mut distances = [0; 32];
+        self.measure_rows(leaf, &mut distances);
         for (i, at) in leaf.rows[..leaf.count as usize].iter().enumerate() {
             so_far = self.count_sample(&self.rows[*at as usize], distances[i], list, so_far);
         }

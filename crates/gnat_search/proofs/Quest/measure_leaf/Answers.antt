@@ -26,7 +26,7 @@ loop-i-preserved g c =
     let row = get_or rows at c.index-self-at.result in
     let there : slice_get rows at ≡ Some row = slice_get-get_or rows at c.index-self-at.result (held_there rows leaf i c.requires.shown c.loop-i-test.true) in
     let few : i < leaf.count = omega (arith, c.loop-i-test.true, length-take leaf.count leaf.rows) in
-    let far = c.leaf_distances-distances.ensures i few row (ap (slice_get rows) (sym (get_or-take leaf.count leaf.rows i 0 few)) ∙ there) in
+    let far = c.measure_rows.ensures i few row (ap (slice_get rows) (sym (get_or-take leaf.count leaf.rows i 0 few)) ∙ there) in
     let call = c.count_sample-so_far in (
       omega (arith, call.ensures.counts, c.loop-i.invariant.0),
       λ xs h old st k.

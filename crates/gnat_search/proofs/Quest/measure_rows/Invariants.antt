@@ -1,7 +1,7 @@
 use Rattle.std.proofs.Common.{◌≡◌, ℕ, ◌<◌, length, get_or, Some}
 use Rattle.std.specs.List.{slice_get}
 use Rattle.gnat_rows.specs.declared.Row.{Row}
-use Rattle.gnat_search.proofs.Quest.leaf_distances.Given as goal
+use Rattle.gnat_search.proofs.Quest.measure_rows.Given as goal
 
 -- the first distances stand in order
 abbrev pub invariant-loop-i : goal.invariant-loop-i

@@ -5,7 +5,7 @@ use Rattle.std.proofs.lemmas.Option.{slice_get-get_or}
 use Rattle.gnat_rows.specs.Shows.{held}
 use Rattle.gnat_rows.proofs.Changes.{same_row}
 use Rattle.gnat_search.proofs.Leaves.{held_there}
-use Rattle.gnat_search.proofs.Quest.leaf_distances.Goals as goal
+use Rattle.gnat_search.proofs.Quest.measure_rows.Goals as goal
 
 pub offset_bounds-self-at : goal.offset_bounds-self-at
 offset_bounds-self-at g c = let h = held_there c.args.self.now.rows.now c.args.leaf.now c.loop-i.i c.requires c.loop-i-test.true in search rules
