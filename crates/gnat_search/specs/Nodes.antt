@@ -13,7 +13,7 @@ use Rattle.gnat_rows.specs.declared.Node.{Node}
 use Rattle.gnat_rows.specs.declared.Row.{Row}
 use Rattle.gnat_rows.specs.Shows.{HoldsSamples, Shows, ShowsParts, held, column}
 use Rattle.gnat_search.specs.declared.Aim.{Aim}
-use Rattle.gnat_search.specs.declared.Band.{Band}
+use Rattle.gnat_search.specs.declared.striking.Band.{Band}
 use Rattle.gnat_search.specs.declared.found.Found.{Found}
 use Rattle.gnat_search.specs.Wants.{want, Kept, Steps}
 

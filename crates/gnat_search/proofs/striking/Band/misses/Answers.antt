@@ -1,7 +1,7 @@
 use Rattle.std.proofs.Common.{arith}
 use Rattle.std.proofs.lemmas.Bool.Decides.{nat_tests}
 use Rattle.gnat_theory.specs.Searching.{outside}
-use Rattle.gnat_search.proofs.Band.misses.Goals as goal
+use Rattle.gnat_search.proofs.striking.Band.misses.Goals as goal
 
 pub returns-then-low-self : goal.returns-then-low-self
 unfolding outside

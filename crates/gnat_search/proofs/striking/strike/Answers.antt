@@ -2,7 +2,7 @@ use Rattle.std.proofs.Common.{◌<◌, [], ◌∷◌, ◌++◌, length, sym, sub
 use Rattle.gnat_theory.specs.Searching.Sight.{seen}
 use Rattle.gnat_search.specs.Nodes.{Flags}
 use Rattle.gnat_search.proofs.Flagging.{quiet_flags, strikes_none, tested_all}
-use Rattle.gnat_search.proofs.strike.Goals as goal
+use Rattle.gnat_search.proofs.striking.strike.Goals as goal
 
 pub returns-in_default : goal.returns-in_default
 returns-in_default c = λ ss long f. quiet_flags c.args.branch.now c.args.struck.now ss _ (strikes_none c.args.reach c.args.distance c.in_default.not-Some) f

@@ -1,7 +1,7 @@
 use Rattle.std.proofs.Common.{◌≡◌, ℕ, ◌<◌, ◌≤◌, ◌||◌, false, length, get_or}
 use Rattle.gnat_theory.specs.Searching.{outside}
 use Rattle.gnat_search.specs.Nodes.{IsAround}
-use Rattle.gnat_search.proofs.strike.Given as goal
+use Rattle.gnat_search.proofs.striking.strike.Given as goal
 
 -- the first children were held against their ranges
 abbrev pub invariant-loop-child : goal.invariant-loop-child
