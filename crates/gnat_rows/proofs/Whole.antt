@@ -11,7 +11,7 @@ use Rattle.gnat_rows.specs.declared.Branch.{Branch as BranchRecord}
 use Rattle.gnat_rows.specs.declared.Node.{Node}
 use Rattle.gnat_rows.specs.declared.Node.TheVariants as node
 use Rattle.gnat_rows.specs.declared.Row.{Row}
-use Rattle.gnat_rows.specs.Lying.{Absent, Distinct}
+use Rattle.gnat_rows.specs.Lying.{Distinct}
 use Rattle.gnat_rows.specs.Shows.{held, column, HoldsSamples, Shows, ShowsParts}
 use Rattle.gnat_rows.specs.Trees.{sample_on, samples_at, part_on, parts_by, tree_of, rows_on, rows_by, rows_of, IsBelow, AreBelow, IsShown, height, height_parts}
 use Rattle.gnat_rows.proofs.Changes.{nth_there}

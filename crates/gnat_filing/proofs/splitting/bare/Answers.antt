@@ -30,7 +30,7 @@ loop-j-preserved g c =
     let below : j < c.args.degree = omega (arith, c.loop-j-test.true, length-take c.args.degree is) in
     let own = c.element_in-element.ensures in
     let m = c.measured-ds.ensures in
-        let lows : down ls' j ≡ ds = same_number_lists (down ls' j) ds (length_down ls' j ∙ L.eight ∙ sym m.eight) (λ k u. search (rules, L.each k (omega (arith, length_down ls' j, L.eight, m.eight)))) in
+    let lows : down ls' j ≡ ds = same_number_lists (down ls' j) ds (length_down ls' j ∙ L.eight ∙ sym m.eight) (λ k u. search (rules, L.each k (omega (arith, length_down ls' j, L.eight, m.eight)))) in
     let highs : down hs' j ≡ ds = same_number_lists (down hs' j) ds (length_down hs' j ∙ H.eight ∙ sym m.eight) (λ k u. search (rules, H.each k (omega (arith, length_down hs' j, H.eight, m.eight)))) in (
       inv.0,
       inv.1,
