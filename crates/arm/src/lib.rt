@@ -13,6 +13,9 @@ const HALF: i32 = 2048;
 
 const FULL: i32 = 4096;
 
+// How much the turn of each joint counts in a distance.
+const WEIGHTS: [u32; 6] = [32, 24, 16, 8, 4, 4];
+
 // The angles of the joints, each read as its remainder by 4,096.
 #[derive(Clone, Copy, Debug, PartialEq)]
 pub struct Arm {
@@ -40,8 +43,8 @@ pub fn swing(from: u16, to: u16) -> u32
     ensures value { result ≡ swing_of from to }
     ensures bound { result ≤ 2048 }
 {
-    let upward = (4096 + u32::from(to % 4096) - u32::from(from % 4096)) % 4096;
-    upward.min(4096 - upward)
+    let upward = (4096 + to % 4096 - from % 4096) % 4096;
+    u32::from(upward.min(4096 - upward))
 }
 
 impl Metric for Arm {
@@ -53,15 +56,12 @@ impl Metric for Arm {
 
     const GREATEST: u32 = 180224;
 
-    // Written out as the rule has it: a table of weights, zipped and summed, is no plainer.
+    // A loop over the joints, and not a sum written out: so several joints are measured at once.
     fn distance(&self, other: &Self) -> u32 {
-        let a = self.angles;
-        let b = other.angles;
-        32 * swing(a[0], b[0])
-            + 24 * swing(a[1], b[1])
-            + 16 * swing(a[2], b[2])
-            + 8 * swing(a[3], b[3])
-            + 4 * swing(a[4], b[4])
-            + 4 * swing(a[5], b[5])
+        let mut sum = 0;
+        for (joint, weight) in WEIGHTS.iter().enumerate() {
+            sum += *weight * swing(self.angles[joint], other.angles[joint]);
+        }
+        sum
     }
 }

@@ -10,7 +10,7 @@ ghost use Rattle.gnat_filing.specs.Filling.{Lengthened, Clears, Bare, BelowFilea
 ghost use Rattle.gnat_filing.specs.Leaf.{Pushed};
 
 use crate::choosing::{Candidate, candidates, choose};
-use crate::widening::{approach, measured};
+use crate::widening::{approach, join_column, measured};
 use gnat_rows::{Branch, EMPTY, Leaf, Node, Row, element_in, node_in, put_marked, put_node};
 use metric::Metric;
 
@@ -62,8 +62,8 @@ fn bare<E: Metric>(rows: &[Row<E>], pivots: [u16; 8], degree: usize) -> Branch
     for (j, pivot) in pivots[..degree].iter().enumerate() {
         let element = element_in(rows, *pivot as usize);
         let ds = measured(rows, &b, &element);
-        b.low[j] = ds;
-        b.high[j] = ds;
+        join_column(&mut b.low, j, &ds, |_, d| d);
+        join_column(&mut b.high, j, &ds, |_, d| d);
     }
     b
 }

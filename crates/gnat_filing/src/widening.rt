@@ -1,7 +1,8 @@
 // One branch on the way of a sample: its pivots are measured, the nearest is found, and the ranges
 // to its child are widened.
-ghost use Rattle.std.specs.Prelude.{◌≡◌, ℕ, ◌<◌, ◌≤◌, length, slice_index};
+ghost use Rattle.std.specs.Prelude.{◌≡◌, ℕ, ◌<◌, ◌≤◌, ◌≢◌, length, slice_index};
 ghost use Rattle.gnat_theory.specs.Filing.{nearest};
+ghost use Rattle.gnat_rows.specs.Shows.{down};
 ghost use Rattle.gnat_filing.specs.Widening.{Pivoted, Measured, Widens, Approaches};
 
 use crate::first::first_place;
@@ -29,18 +30,27 @@ pub fn closest(ds: &[u32]) -> usize
     first_place(ds, |d, e| d < e)
 }
 
-// The first of these bounds as `join` makes them of themselves and the distances.
-fn joined<F: Fn(u32, u32) -> u32>(bounds: [u32; 8], ds: &[u32], join: F) -> [u32; 8]
-    requires fits { length ds.now ≤ 8 }
-    requires callable { F.IsAlwaysCallable join }
-    ensures eight { (length bounds ≡ 8) × (length result ≡ 8) }
-    ensures each { (k : ℕ) → k < length ds.now → F.post join (slice_index bounds k) (slice_index ds.now k) (slice_index result k) }
+// Puts a number into a row of a table.
+fn put_in_row(row: &mut [u32; 8], j: usize, value: u32)
+    requires { j < 8 }
+    ensures here { slice_index row.new j ≡ value }
+    ensures others { (m : ℕ) → (m ≢ j) → slice_index row.new m ≡ slice_index row.old m }
 {
-    let mut r = bounds;
+    row[j] = value;
+}
+
+// Makes the first numbers of a table's column what `join` makes of each and a distance.
+pub fn join_column<F: Fn(u32, u32) -> u32>(table: &mut [[u32; 8]; 8], j: usize, ds: &[u32], join: F)
+    requires fits { (j < 8) × (length ds.now ≤ 8) }
+    requires callable { F.IsAlwaysCallable join }
+    ensures eight { length table.new ≡ 8 }
+    ensures each { (k : ℕ) → k < length ds.now → F.post join (slice_index (down table.old j) k) (slice_index ds.now k) (slice_index (down table.new j) k) }
+    ensures others { (m : ℕ) → (m ≢ j) → down table.new m ≡ down table.old m }
+{
     for (i, d) in ds.iter().enumerate() {
-        r[i] = join(r[i], *d);
+        let joined = join(table[i][j], *d);
+        put_in_row(&mut table[i], j, joined);
     }
-    r
 }
 
 // Widens every pivot's range to the child j to hold its distance.
@@ -48,10 +58,8 @@ fn widen_column(b: &mut Branch, j: usize, ds: &[u32])
     requires { (b.old.count ≤ 8) × (j < 8) × (length ds.now ≡ b.old.count) }
     ensures { Widens b.old b.new j ds.now }
 {
-    let low = b.low[j];
-    let high = b.high[j];
-    b.low[j] = joined(low, ds, |l, d| l.min(d));
-    b.high[j] = joined(high, ds, |h, d| h.max(d));
+    join_column(&mut b.low, j, ds, |l, d| l.min(d));
+    join_column(&mut b.high, j, ds, |h, d| h.max(d));
 }
 
 // Finds the pivot nearest to an element, and widens the ranges to its child.

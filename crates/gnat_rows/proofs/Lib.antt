@@ -4,3 +4,4 @@ pub mod Apart
 pub mod Showing
 pub mod Only
 pub mod Whole
+pub mod Columns

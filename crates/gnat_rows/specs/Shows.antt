@@ -1,5 +1,5 @@
 -- Which tree rows show, from a node on, and which rows it lies in.
-use Rattle.std.specs.Prelude.{◌≡◌, ℕ, zero, suc, ◌≤◌, List, [], ◌∷◌, ◌++◌, length, take, Some, slice_index, slice_index_or}
+use Rattle.std.specs.Prelude.{◌≡◌, ℕ, zero, suc, ◌≤◌, List, [], ◌∷◌, ◌++◌, length, map, take, Some, slice_index}
 use Rattle.std.specs.List.{slice_get}
 use Rattle.hits.specs.Samples.{Sample}
 use Rattle.gnat_theory.specs.Tree.{Tree, Parts, Pivot, Range, pivots}
@@ -28,9 +28,13 @@ ranges (suc n) [] highs = []
 ranges (suc n) (l ∷ lows) [] = []
 ranges (suc n) (l ∷ lows) (h ∷ highs) = record { low = l; high = h } ∷ ranges n lows highs
 
+-- down a table, the number at j of each row
+abbrev pub down : List (List ℕ) → ℕ → List ℕ
+down table j = map (λ row. slice_index row j) table
+
 -- the ranges of every pivot to the child j
 abbrev pub column : BranchRecord → ℕ → List Range
-column b j = ranges b.count (slice_index_or b.low j []) (slice_index_or b.high j [])
+column b j = ranges b.count (down b.low j) (down b.high j)
 
 module _ {E : Type 0} (rows : List (Row E)) where
   -- these rows hold these samples, in order

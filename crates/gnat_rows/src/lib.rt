@@ -19,11 +19,11 @@ pub struct Leaf {
     pub rows: [u16; 32],
 }
 
-// A branch: the rows of its pivots, and the ranges of every pivot to every child; low[j][i] and
-// high[j][i] are those of pivot i to child j. The child of a pivot is the node in the pivot's row.
-// That `count` is at most 8 is no fact of the type, as at `Leaf`. Two arrays and not one of pairs: a column of either is
-// written whole, as distances that were measured or as widened by its own function (least, greatest), where pairs would be
-// taken apart and put together again.
+// A branch: the rows of its pivots, and the ranges of every pivot to every child; low[i][j] and
+// high[i][j] are those of pivot i to child j. The child of a pivot is the node in the pivot's row.
+// That `count` is at most 8 is no fact of the type, as at `Leaf`. The ranges of one pivot lie side by side, since a search
+// holds them all against one distance; filing, which is rarer, goes down a column, the ranges to one child. Two arrays and
+// not one of pairs: lows lie beside lows, so that eight are compared at once.
 #[derive(Clone, Copy)]
 pub struct Branch {
     pub count: u8,

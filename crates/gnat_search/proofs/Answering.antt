@@ -1,5 +1,5 @@
 -- What the search of an index's tree has found, in terms of the samples that stand. Assumes the laws of the distance.
-use Rattle.std.proofs.Common.{◌≡◌, ℕ, ◌≤◌, min, List, length, take, ap, ◌∙◌, arith, length-take}
+use Rattle.std.proofs.Common.{◌≡◌, ℕ, min, List, length, take, ap, ◌∙◌, arith, length-take}
 use Rattle.std.proofs.lemmas.List.{take-take}
 use Rattle.metric.specs.Laws.{MetricLaws}
 use Rattle.hits.specs.declared.Hit.{Hit}

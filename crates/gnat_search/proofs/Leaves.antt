@@ -5,8 +5,11 @@ use Rattle.std.proofs.lemmas.List.{take_more, take_all}
 use Rattle.hits.specs.Samples.{Sample}
 use Rattle.gnat_theory.specs.Searching.{Want, State, measure, measure_all}
 use Rattle.gnat_theory.proofs.Steps.{measure_push}
+use Rattle.gnat_rows.specs.declared.Leaf.{Leaf}
 use Rattle.gnat_rows.specs.declared.Row.{Row}
-use Rattle.gnat_rows.specs.Shows.{HoldsSamples, sample_in}
+use Rattle.gnat_rows.specs.Shows.{HoldsSamples, sample_in, held}
+use Rattle.gnat_search.specs.Nodes.{LeafShown}
+use Rattle.std.proofs.lemmas.Option.{slice_get_within}
 use Rattle.gnat_rows.proofs.Changes.{same_row}
 use Rattle.gnat_rows.proofs.Showing.{holds_length}
 
@@ -32,3 +35,7 @@ module _ {E : Type 0} (rows : List (Row E)) where
 
     pub all_of : (i : ℕ) → length is ≤ i → take i xs ≡ xs
     all_of i k = take_all i xs (omega (arith, holds_length rows is xs h))
+
+-- the row of the leaf's sample i is there
+pub held_there : {E : Type 0} (rows : List (Row E)) (l : Leaf) (i : ℕ) → LeafShown rows l → i < length (held l) → get_or (held l) i 0 < length rows
+held_there rows l i shown k = let at = holds_at rows (held l) shown.0 i shown.3 k in slice_get_within rows (get_or (held l) i 0) at.0 at.1

@@ -1,9 +1,9 @@
 -- What a search does at the nodes that it visits.
-use Rattle.std.specs.Prelude.{◌≡◌, ℕ, zero, suc, ◌<◌, ◌≤◌, Bool, false, cond, List, [], ◌∷◌, ◌++◌, length, slice_index, slice_index_or, Some}
+use Rattle.std.specs.Prelude.{◌≡◌, ℕ, zero, suc, ◌+◌, ◌-◌, ◌^◌, ◌<◌, ◌≤◌, min, Bool, false, cond, List, [], ◌∷◌, ◌++◌, length, slice_index, slice_index_or, Some}
 use Rattle.std.specs.List.{slice_get}
 use Rattle.hits.specs.declared.Hit.{Hit}
 use Rattle.hits.specs.Samples.{Sample}
-use Rattle.gnat_theory.specs.Tree.{Tree, Parts, Range, pivots}
+use Rattle.gnat_theory.specs.Tree.{Tree, Parts, pivots}
 use Rattle.gnat_theory.specs.Searching.{State, Sight, start, struck, measure_all, survey, searched}
 use Rattle.gnat_theory.specs.Pending.{turn}
 use Rattle.gnat_theory.specs.Shapes.{pivot_count}
@@ -13,12 +13,15 @@ use Rattle.gnat_rows.specs.declared.Node.{Node}
 use Rattle.gnat_rows.specs.declared.Row.{Row}
 use Rattle.gnat_rows.specs.Shows.{HoldsSamples, Shows, ShowsParts, held, column}
 use Rattle.gnat_search.specs.declared.Aim.{Aim}
+use Rattle.gnat_search.specs.declared.striking.Band.{Band}
 use Rattle.gnat_search.specs.declared.found.Found.{Found}
 use Rattle.gnat_search.specs.Wants.{want, Kept, Steps}
 
--- there is a range of the pivot i to the child j, and this holds of it
-abbrev pub HasRange : BranchRecord → ℕ → ℕ → (Range → Type 0) → Type 0
-HasRange b j i P = (r : Range) × (slice_get (column b j) i ≡ Some r) × P r
+-- the ends of the distances from a pivot at which a sample could count, within R of a query at the distance d; what is
+-- beyond 32 bits is beyond all ranges
+pub record IsAround (d R : ℕ) (band : Band) : Type 0 where
+  pub from : band.from ≡ d - R
+  pub to : band.to ≡ min (d + R) (2 ^ 32 - 1)
 
 -- which children the pivots seen strike
 abbrev pub Flags : BranchRecord → List Bool → List Sight → Type 0
@@ -52,6 +55,10 @@ module _ {E : Type 0} (rows : List (Row E)) where
   -- the node shows a tree with at most so many pivots
   abbrev pub Searchable : ℕ → Node → Type 0
   Searchable most n = (t : Tree E) × (fs : List ℕ) × Shows rows n t fs × (pivot_count t ≤ most)
+
+  -- in order, the distances from q to the leaf's samples
+  abbrev pub LeafDistances : (E → E → ℕ) → E → LeafRecord → List ℕ → Type 0
+  LeafDistances dist q l ds = (k : ℕ) → k < l.count → (r : Row E) → slice_get rows (slice_index l.rows k) ≡ Some r → slice_index ds k ≡ dist q r.element
 
   module _ (dist : E → E → ℕ) (q : E) (aim : Aim) where
     -- the samples that the leaf holds were measured

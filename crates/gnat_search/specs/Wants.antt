@@ -3,7 +3,8 @@ use Rattle.std.specs.Prelude.{◌≡◌, ℕ, ◌+◌, ◌^◌, ◌<◌, ◌≤�
 use Rattle.hits.specs.declared.Hit.{Hit}
 use Rattle.hits.specs.Order.{Sorted}
 use Rattle.hits.specs.Lists.{over}
-use Rattle.gnat_theory.specs.Searching.{Want, State, nearest_hits, hits_within, measure_pivot}
+use Rattle.hits.specs.Samples.{Sample}
+use Rattle.gnat_theory.specs.Searching.{Want, State, nearest_hits, hits_within, measure, measure_pivot}
 use Rattle.gnat_theory.specs.Tree.{Pivot}
 use Rattle.gnat_search.specs.declared.Aim.{Aim}
 use Rattle.gnat_search.specs.declared.Aim.TheVariants.{Nearest, Within}
@@ -36,6 +37,10 @@ pub record Kept (old list : List Hit) (p : Found) (st : State) : Type 0 where
 -- whatever state list and counts stood for, they then stand for the next
 abbrev pub Steps : (State → State) → List Hit → List Hit → Found → Found → Type 0
 Steps next before after p r = (old : List Hit) (st : State) → Kept old before p st → Kept old after r (next st)
+
+-- a sample at this distance from the query, measured
+abbrev pub SampleCounted : {E : Type 0} → (E → E → ℕ) → ℕ → Sample E → Aim → List Hit → List Hit → Found → Found → Type 0
+SampleCounted {E} dist distance sample aim before after p r = (q : E) → distance ≡ dist q sample.element → Steps (measure dist q (want aim (length before)) sample) before after p r
 
 -- a pivot at this distance from the query, measured
 abbrev pub PivotCounted : {E : Type 0} → (E → E → ℕ) → ℕ → Pivot E → Aim → List Hit → List Hit → Found → Found → Type 0

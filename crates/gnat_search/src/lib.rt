@@ -3,20 +3,20 @@
 
 ghost use Rattle.std.specs.Prelude.{◌≡◌, ◌+◌, ◌-◌, ◌<◌, ◌≤◌, List, ◌++◌, length};
 ghost use Rattle.arrayvec.specs.ArrayVec.{array_vec_len};
-ghost use Rattle.gnat_theory.specs.Searching.{State, counted_in, measure, outside as outside_of};
-ghost use Rattle.gnat_theory.specs.Searching.Sight.{seen};
+ghost use Rattle.gnat_theory.specs.Searching.{State, counted_in};
 ghost use Rattle.gnat_rows.specs.Shows.{sample_in, pivot_in};
-ghost use Rattle.gnat_search.specs.Wants.{want, Room, Counted, Kept, Steps, PivotCounted};
-ghost use Rattle.gnat_search.specs.Nodes.{HasRange, StruckMore, open_rows, LeafShown, BranchShown, Searchable, LeafMeasured, BranchSurveyed, Visited, Searched};
+ghost use Rattle.gnat_search.specs.Wants.{want, Room, Counted, Kept, Steps, SampleCounted, PivotCounted};
+ghost use Rattle.gnat_search.specs.Nodes.{open_rows, LeafShown, BranchShown, Searchable, LeafDistances, LeafMeasured, BranchSurveyed, Visited, Searched};
 
 mod found;
+mod striking;
 
 use arrayvec::ArrayVec;
 pub use found::Found;
 use gnat_rows::{Branch, Leaf, Node, Row};
 use hits::{Hit, place};
 use metric::Metric;
-use std::array;
+use striking::strike;
 
 // The rows that can be pending at once: each holds a pivot of its own, and a tree has at most 1,024.
 const PENDING: usize = 1024;
@@ -87,41 +87,6 @@ impl Aim {
     }
 }
 
-// Whether the range of a pivot to a child has nothing within the radius: the pivot is at this distance.
-fn outside(branch: &Branch, child: usize, pivot: usize, distance: u32, radius: u32) -> bool
-    requires child { child < branch.now.count }
-    requires pivot { pivot < branch.now.count }
-    requires few { branch.now.count ≤ 8 }
-    ensures { HasRange branch.now child pivot (λ range. result ≡ outside_of distance radius range) }
-{
-    let distance = u64::from(distance);
-    let radius = u64::from(radius);
-    let low = u64::from(branch.low[child][pivot]);
-    let high = u64::from(branch.high[child][pivot]);
-    low > distance + radius || high + radius < distance
-}
-
-// Strikes the children that the ranges of a pivot show to be out of reach.
-fn strike(
-    struck: [bool; 8],
-    branch: &Branch,
-    pivot: usize,
-    distance: u32,
-    reach: Option<u32>,
-) -> [bool; 8]
-    requires pivot { pivot < branch.now.count }
-    requires few { branch.now.count ≤ 8 }
-    ensures { StruckMore branch.now pivot (seen distance reach) struck result }
-{
-    let Some(radius) = reach else {
-        return struck;
-    };
-    let count = branch.count as usize;
-    array::from_fn(|child| {
-        struck[child] || child < count && outside(branch, child, pivot, distance, radius)
-    })
-}
-
 // Puts the rows of the children that are not struck behind those that are pending, in order.
 fn push_open(branch: &Branch, struck: &[bool; 8], pending: &mut ArrayVec<u16, PENDING>)
     requires few { branch.now.count ≤ 8 }
@@ -147,15 +112,15 @@ struct Quest<'a, E> {
 }
 
 impl<'a, E: Metric> Quest<'a, E> {
-    // Measures the sample in a row.
-    fn measure_row(&self, row: &Row<E>, list: &mut [Hit], so_far: Found) -> Found
+    // Counts the sample in a row, which is at this distance.
+    fn count_sample(&self, row: &Row<E>, distance: u32, list: &mut [Hit], so_far: Found) -> Found
         requires { Room so_far 1 }
         ensures counts { Counted so_far result 1 }
-        ensures keeps { Steps (measure E.dist self.now.q.now (want self.now.aim (length list.old)) (sample_in row.now)) list.old list.new so_far result }
+        ensures keeps { SampleCounted E.dist distance (sample_in row.now) self.now.aim list.old list.new so_far result }
     {
         let hit = Hit {
             number: row.number,
-            distance: self.q.distance(&row.element),
+            distance,
         };
         self.aim.keep(list, so_far, hit)
     }
@@ -173,22 +138,30 @@ impl<'a, E: Metric> Quest<'a, E> {
                 measured: so_far.measured + 1,
             };
         }
-        let hit = Hit {
-            number: row.number,
-            distance,
-        };
-        self.aim.keep(list, so_far, hit)
+        self.count_sample(row, distance, list, so_far)
     }
 
-    // Measures the samples of a leaf.
+    // Writes down the distances of a leaf's samples, in order.
+    fn measure_rows(&self, leaf: &Leaf, distances: &mut [u32; 32])
+        requires { LeafShown self.now.rows.now leaf.now }
+        ensures { LeafDistances self.now.rows.now E.dist self.now.q.now leaf.now distances.new }
+    {
+        for (i, at) in leaf.rows[..leaf.count as usize].iter().enumerate() {
+            distances[i] = self.q.distance(&self.rows[*at as usize].element);
+        }
+    }
+
+    // Measures the samples of a leaf: all of them before one is counted, so that no distance waits for a hit to be placed.
     fn measure_leaf(&self, leaf: &Leaf, list: &mut [Hit], mut so_far: Found) -> Found
         requires shown { LeafShown self.now.rows.now leaf.now }
         requires room { Room so_far 32 }
         ensures counts { Counted so_far result 32 }
         ensures keeps { LeafMeasured self.now.rows.now E.dist self.now.q.now self.now.aim leaf.now list.old list.new so_far result }
     {
-        for at in &leaf.rows[..leaf.count as usize] {
-            so_far = self.measure_row(&self.rows[*at as usize], list, so_far);
+        let mut distances = [0; 32];
+        self.measure_rows(leaf, &mut distances);
+        for (i, at) in leaf.rows[..leaf.count as usize].iter().enumerate() {
+            so_far = self.count_sample(&self.rows[*at as usize], distances[i], list, so_far);
         }
         so_far
     }
@@ -209,7 +182,7 @@ impl<'a, E: Metric> Quest<'a, E> {
                 let distance = self.q.distance(&row.element);
                 let counted = self.count_pivot(row, distance, list, so_far);
                 let within = self.aim.reach(list, counted);
-                struck = strike(struck, branch, i, distance, within);
+                strike(&mut struck, branch, i, distance, within);
                 so_far = counted;
             }
         }

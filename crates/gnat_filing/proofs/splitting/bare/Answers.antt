@@ -1,8 +1,10 @@
-use Rattle.std.proofs.Common.{◌≡◌, ℕ, ◌<◌, ◌≢◌, List, [], length, get_or, take, set, sym, ap, ◌∙◌, subst, arith, length-set, get_or-set_other, get_or-set_same, below_more, rules}
+use Rattle.std.proofs.Common.{◌≡◌, ℕ, ◌<◌, ◌≢◌, List, length, get_or, take, sym, ap, ◌∙◌, subst, arith, below_more, rules}
+use Rattle.std.proofs.lemmas.Grind.{same_number_lists}
 use Rattle.std.specs.List.{slice_get}
 use Rattle.std.proofs.lemmas.List.{get_or-take, length-take, length-take-le}
 use Rattle.gnat_rows.specs.Rows.{HasRow}
-use Rattle.gnat_rows.specs.Shows.{ranges}
+use Rattle.gnat_rows.specs.Shows.{ranges, down}
+use Rattle.gnat_rows.proofs.Columns.{length_down}
 use Rattle.gnat_filing.proofs.splitting.bare.Goals as goal
 
 pub measured-ds-requires : goal.measured-ds-requires
@@ -17,6 +19,10 @@ loop-j-preserved g c =
     let n = b.count in
     let ls = b.low in
     let hs = b.high in
+    let ls' = c.join_column.new.table in
+    let hs' = c.join_column-in-loop-j.new.table in
+    let L = c.join_column.ensures in
+    let H = c.join_column-in-loop-j.ensures in
     let j = c.loop-j.j in
     let ds = c.measured-ds.result in
     let rows = c.args.rows.now in
@@ -24,22 +30,20 @@ loop-j-preserved g c =
     let below : j < c.args.degree = omega (arith, c.loop-j-test.true, length-take c.args.degree is) in
     let own = c.element_in-element.ensures in
     let m = c.measured-ds.ensures in
-    let in-low : j < length ls = omega (arith, inv.2, c.requires.1.0, below) in
-    let in-high : j < length hs = omega (arith, inv.3, c.requires.1.0, below) in (
+    let lows : down ls' j ≡ ds = same_number_lists (down ls' j) ds (length_down ls' j ∙ L.eight ∙ sym m.eight) (λ k u. search (rules, L.each k (omega (arith, length_down ls' j, L.eight, m.eight)))) in
+    let highs : down hs' j ≡ ds = same_number_lists (down hs' j) ds (length_down hs' j ∙ H.eight ∙ sym m.eight) (λ k u. search (rules, H.each k (omega (arith, length_down hs' j, H.eight, m.eight)))) in (
       inv.0,
       inv.1,
-      length-set ls j ds ∙ inv.2,
-      length-set hs j ds ∙ inv.3,
       below_more _ _
-          (λ k h. let ne : k ≢ j = omega arith in let w = inv.4 k h in
-          (w.0, w.1, (w.2.0, w.2.1, w.2.2, (ap (λ (xs : List ℕ). ranges n xs (get_or (set hs j ds) k [])) (get_or-set_other ls j k ds [] ne) ∙ ap (λ (xs : List ℕ). ranges n (get_or ls k []) xs) (get_or-set_other hs j k ds [] ne)) ∙ w.2.3))) (
+          (λ k h. let ne : k ≢ j = omega arith in let w = inv.2 k h in
+          (w.0, w.1, (w.2.0, w.2.1, w.2.2, (ap (λ (xs : List ℕ). ranges n xs (down hs' k)) (L.others k ne) ∙ ap (λ (xs : List ℕ). ranges n (down ls k) xs) (H.others k ne)) ∙ w.2.3))) (
             own.0,
             ap (slice_get rows) (sym (get_or-take c.args.degree is j 0 below)) ∙ own.1,
             (
               ds,
               (λ k h. let v = m.each k h in subst (λ z. HasRow rows (get_or z k 0) (λ q. get_or ds k 0 ≡ g.E.Metric.dist q.element own.0.element)) inv.1 (v.0, v.1, v.2 ∙ ap (g.E.Metric.dist v.0.element) own.2)),
               m.eight,
-              ap (λ (xs : List ℕ). ranges n xs (get_or (set hs j ds) j [])) (get_or-set_same ls j ds [] in-low) ∙ ap (λ (xs : List ℕ). ranges n ds xs) (get_or-set_same hs j ds [] in-high),
+              ap (λ (xs : List ℕ). ranges n xs (down hs' j)) lows ∙ ap (λ (xs : List ℕ). ranges n ds xs) highs,
             ),
           ),
     )
@@ -49,4 +53,4 @@ returns g c =
     let inv = c.loop-j.invariant in
     let long : length c.args.pivots ≡ 8 = search rules in
     let whole : length (take c.args.degree c.args.pivots) ≡ c.args.degree = length-take-le c.args.degree c.args.pivots (omega (arith, c.requires.1.0)) in
-    record { count = inv.0; pivots = inv.1; points = λ k l. inv.4 k (omega (arith, whole, c.loop-j-test.false)) }
+    record { count = inv.0; pivots = inv.1; points = λ k l. inv.2 k (omega (arith, whole, c.loop-j-test.false)) }

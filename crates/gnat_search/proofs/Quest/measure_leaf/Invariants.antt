@@ -6,7 +6,7 @@ use Rattle.gnat_search.specs.Wants.{want, Counted, Steps}
 use Rattle.gnat_search.proofs.Quest.measure_leaf.Given as goal
 
 -- so many samples were measured
-abbrev pub invariant-loop-at : goal.invariant-loop-at
-invariant-loop-at g l =
-    Counted l.initial.so_far l.so_far l.at-index
-    × ((xs : List (Sample g.row.E.Denot)) → HoldsSamples l.self.rows.now (held l.leaf) xs → Steps (measure_all g.E.Metric.dist l.self.q.now (want l.self.aim (length l.initial.list)) (take l.at-index xs)) l.initial.list l.list l.initial.so_far l.so_far)
+abbrev pub invariant-loop-i : goal.invariant-loop-i
+invariant-loop-i g l =
+    Counted l.initial.so_far l.so_far l.i
+    × ((xs : List (Sample g.row.E.Denot)) → HoldsSamples l.self.rows.now (held l.leaf) xs → Steps (measure_all g.E.Metric.dist l.self.q.now (want l.self.aim (length l.initial.list)) (take l.i xs)) l.initial.list l.list l.initial.so_far l.so_far)

@@ -62,15 +62,15 @@ loop-i-preserved g c =
           let there : slice_get rows (get_or b.pivots i 0) ≡ Some row = ap (slice_get rows) (sym is.1) ∙ slice_get-get_or rows at s.index-self-at.result (in_range rows b i c.requires.shown c.loop-i-test.true) in
           let far : s.distance-distance.result ≡ dist q row.element = s.distance-distance.ensures in
           let long : length s.count_pivot-counted.new.list ≡ length c.args.list.now = s.count_pivot-counted.auto.list ∙ c.loop-i.auto.list in (
-            ap length s.struck-is ∙ (let ok = s.strike-struck.type_inv in search rules),
+            ap length s.struck-is ∙ s.strike.array_long,
             subst (λ z. Counted c.args.so_far z (i + 1)) (sym s.so_far-is) (omega (arith, counted.counts, c.loop-i.invariant.1)),
             (λ ps fs n t old st k.
-                surveyed_as rows dist q w b ps st old (i + 1) s.strike-struck.result c.if-not-struck-i.struck s.count_pivot-counted.new.list c.if-not-struck-i.list s.count_pivot-counted.result c.if-not-struck-i.so_far s.struck-is s.list-is s.so_far-is
-                (seen_surveyed rows dist q w b ps st old i c.loop-i.struck c.loop-i.list c.loop-i.so_far is.0 row s.distance-distance.result s.reach-within.result s.strike-struck.result s.count_pivot-counted.new.list s.count_pivot-counted.result
+                surveyed_as rows dist q w b ps st old (i + 1) s.strike.new.struck c.if-not-struck-i.struck s.count_pivot-counted.new.list c.if-not-struck-i.list s.count_pivot-counted.result c.if-not-struck-i.so_far s.struck-is s.list-is s.so_far-is
+                (seen_surveyed rows dist q w b ps st old i c.loop-i.struck c.loop-i.list c.loop-i.so_far is.0 row s.distance-distance.result s.reach-within.result s.strike.new.struck s.count_pivot-counted.new.list s.count_pivot-counted.result
                 s.if-not-struck-i.true there far
                 (λ st k. subst (λ n. Kept old s.count_pivot-counted.new.list s.count_pivot-counted.result (measure_pivot dist q (want aim n) (pivot_in row) st)) c.loop-i.auto.list (counted.keeps q far old st k))
                 (λ st k. s.reach-within.ensures old st k ∙ ap (λ n. (want aim n).reach st.kept) long)
-                s.strike-struck.ensures
+                s.strike.ensures
                 (c.loop-i.invariant.2 ps fs n t old st k))),
           )
       | else-not-struck-i s ↦ (
