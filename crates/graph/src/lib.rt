@@ -81,7 +81,7 @@ fn route_in<
     let Some(cost) = costs[start] else {
         return Err(Refusal::NotJoined);
     };
-    let count = cost.steps + 1;
+    let count = cost.steps as u16 + 1;
     if list.len() < count as usize {
         return Err(Refusal::ShortList(count));
     }

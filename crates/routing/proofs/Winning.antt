@@ -6,7 +6,7 @@ use Rattle.std.proofs.lemmas.Bool.Decides.{nat_tests}
 use Rattle.routing.specs.declared.cost.Cost.{Cost}
 use Rattle.routing.specs.declared.knockout.Waiting.{Waiting}
 use Rattle.routing.specs.Ranks.{cheaper}
-use Rattle.routing.specs.Knockouts.{winner_of, wins_of, NoDearer, Below, Best, entry, places, waits, beside, Decided, DecidedBut, IsKnockout, OnlyAt, PutIn, Taken, nobody, least, Replayed}
+use Rattle.routing.specs.Knockouts.{winner_of, wins_of, NoDearer, Below, Best, entry, places, waits, Decided, DecidedBut, IsKnockout, OnlyAt, PutIn, Taken, nobody, least, Replayed}
 
 cheaper_not : (a : Cost) → cheaper a a ≡ false
 unfolding cheaper
@@ -78,25 +78,9 @@ decided_above m at x l but own i a b n = go (cases_eq i at)
     go (inl e) = subst (Decided (set m at x)) (sym e) (own (omega (arith, e, inside)))
     go (inr e) = decided_same m at i x (λ z. e z) (λ (z : 2 * i ≡ at). n (omega (arith, z))) (λ (z : 2 * i + 1 ≡ at). n (omega (arith, z))) (but i a inside (λ z. e z))
 
--- the winner of a match and the one beside stands above them
-pub replay_up : (m : List (Option Waiting)) (at : ℕ) → length m ≡ 2 * places m → 1 < at → at < length m → DecidedBut (at / 2) m → DecidedBut (at / 2 / 2) (set m (at / 2) (winner_of (entry m at) (entry m (beside at))))
-replay_up m at even low l but = decided_above m (at / 2) (winner_of (entry m at) (entry m (beside at))) (omega arith) but (λ k. go (cases_lt (2 * (at / 2)) at))
-  where
-    keep : (i : ℕ) → (i ≡ at / 2 → ⊥) → entry (set m (at / 2) (winner_of (entry m at) (entry m (beside at)))) i ≡ entry m i
-    keep i n = get_or-set_other m (at / 2) i (winner_of (entry m at) (entry m (beside at))) None n
-
-    here : entry (set m (at / 2) (winner_of (entry m at) (entry m (beside at)))) (at / 2) ≡ winner_of (entry m at) (entry m (beside at))
-    here = get_or-set_same m (at / 2) (winner_of (entry m at) (entry m (beside at))) None (omega arith)
-
-    go : (2 * (at / 2) < at) ⊎ (at ≤ 2 * (at / 2)) → Decided (set m (at / 2) (winner_of (entry m at) (entry m (beside at)))) (at / 2)
-    go (inl y) =
-        let e : 2 * (at / 2) + 1 ≡ at = omega arith in
-        let f : 2 * (at / 2) ≡ beside at = omega arith in
-        best_as _ _ _ _ _ _ here (keep (2 * (at / 2)) (λ z. omega arith) ∙ ap (entry m) f) (keep (2 * (at / 2) + 1) (λ z. omega arith) ∙ ap (entry m) e) (best_swap _ _ _ (winner_best (entry m at) (entry m (beside at))))
-    go (inr y) =
-        let e : 2 * (at / 2) ≡ at = omega arith in
-        let f : 2 * (at / 2) + 1 ≡ beside at = omega arith in
-        best_as _ _ _ _ _ _ here (keep (2 * (at / 2)) (λ z. omega arith) ∙ ap (entry m) e) (keep (2 * (at / 2) + 1) (λ z. omega arith) ∙ ap (entry m) f) (winner_best (entry m at) (entry m (beside at)))
+pub replay_step : (m : List (Option Waiting)) (at : ℕ) (x : Option Waiting) → length m ≡ 2 * places m → 0 < at → at < places m → DecidedBut at m → x ≡ winner_of (entry m (2 * at)) (entry m (2 * at + 1)) → DecidedBut (at / 2) (set m at x)
+replay_step m at x even low l but is =
+    decided_above m at x (omega arith) but (λ k. best_as _ _ _ _ _ _ (get_or-set_same m at x None (omega (arith, even)) ∙ is) (get_or-set_other m at (2 * at) x None (λ z. omega arith)) (get_or-set_other m at (2 * at + 1) x None (λ z. omega arith)) (winner_best (entry m (2 * at)) (entry m (2 * at + 1))))
 
 -- the entries below a match, one of which has just changed to w, and the other one
 pub record Open (w : Waiting) (at : ℕ) (m : List (Option Waiting)) : Type 0 where

@@ -1,5 +1,5 @@
 -- Places that wait, as a knockout by cost.
-use Rattle.std.specs.Prelude.{◌≡◌, ℕ, ◌+◌, ◌-◌, ◌*◌, ◌/◌, ◌<◌, ◌≤◌, ◌⊎◌, ◌≢◌, Bool, true, false, cond, List, length, Some, None, Option, slice_index_or}
+use Rattle.std.specs.Prelude.{◌≡◌, ℕ, ◌+◌, ◌*◌, ◌/◌, ◌<◌, ◌≤◌, ◌⊎◌, ◌≢◌, Bool, true, false, cond, List, length, Some, None, Option, slice_index_or}
 use Rattle.routing.specs.declared.cost.Cost.{Cost}
 use Rattle.routing.specs.declared.knockout.Waiting.{Waiting}
 use Rattle.routing.specs.Ranks.{cheaper}
@@ -37,10 +37,6 @@ places matches = length matches / 2
 -- the place p as it waits
 abbrev pub waits : List (Option Waiting) → ℕ → Option Waiting
 waits matches p = entry matches (places matches + p)
-
--- the other one of the match that i plays: of 2q and 2q + 1
-abbrev pub beside : ℕ → ℕ
-beside i = 4 * (i / 2) + 1 - i
 
 -- who won at i
 abbrev pub Decided : List (Option Waiting) → ℕ → Type 0

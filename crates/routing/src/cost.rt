@@ -7,13 +7,13 @@ ghost use Rattle.routing.specs.Ranks.{onward, lowers};
 #[derive(Clone, Copy, PartialEq, Eq, PartialOrd, Ord)]
 pub struct Cost {
     pub length: u32,
-    pub steps: u16,
+    pub steps: u32,
 }
 
 impl Cost {
     /// The cost of a chain that goes one step, so far, and then on by a chain of this cost.
     pub fn onward(self, apart: u32) -> Cost
-        requires { (self.length + apart < 4294967296) × (self.steps < 65535) }
+        requires { (self.length + apart < 4294967296) × (self.steps + 1 < 4294967296) }
         ensures { result ≡ onward self apart }
     {
         Cost {

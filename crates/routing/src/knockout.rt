@@ -1,7 +1,7 @@
 // Places that wait, as a knockout by cost. With n places, place p stands at n + p while it waits, and at each i from 1 to
 // n - 1 stands the one of less cost of those at 2i and 2i + 1: so the one of least cost stands at 1. Nobody stands at 0.
-ghost use Rattle.std.specs.Prelude.{◌≡◌, ◌*◌, ◌/◌, ◌<◌, ◌≤◌, length};
-ghost use Rattle.routing.specs.Knockouts.{winner_of, wins_of, beside, places, waits, DecidedBut, Below, IsKnockout, Replayed, PutIn, Taken};
+ghost use Rattle.std.specs.Prelude.{◌≡◌, ◌+◌, ◌*◌, ◌<◌, ◌≤◌, length};
+ghost use Rattle.routing.specs.Knockouts.{winner_of, wins_of, entry, places, waits, DecidedBut, Below, IsKnockout, Replayed, PutIn, Taken};
 
 use crate::cost::Cost;
 
@@ -9,44 +9,39 @@ use crate::cost::Cost;
 #[derive(Clone, Copy)]
 pub struct Waiting {
     pub cost: Cost,
-    pub place: u16,
+    pub place: u32,
 }
 
-// The one of less cost, the first if equal.
-fn winner(one: Option<Waiting>, other: Option<Waiting>) -> Option<Waiting>
-    ensures { result ≡ winner_of one other }
+// Where the one of less cost stands of the two that play for `at`, the first if equal: only its number is chosen, so that
+// a match copies its winner once.
+fn winner(matches: &[Option<Waiting>], at: usize) -> usize
+    requires { 2 * at + 1 < length matches.now }
+    ensures inside { result < length matches.now }
+    ensures winner { entry matches.now result ≡ winner_of (entry matches.now (2 * at)) (entry matches.now (2 * at + 1)) }
 {
-    let Some(first) = one else {
+    let one = 2 * at;
+    let other = 2 * at + 1;
+    let Some(first) = matches[one] else {
         return other;
     };
-    let Some(second) = other else {
+    let Some(second) = matches[other] else {
         return one;
     };
     if second.cost < first.cost { other } else { one }
 }
 
-// The other one of the match that this one plays.
-fn beside(at: usize) -> usize
-    requires { (1 < at) × (at < 2048) }
-    ensures { result ≡ beside at }
-{
-    if at % 2 == 0 { at + 1 } else { at - 1 }
-}
-
-// Plays again all matches above this one, which has changed.
-fn replay(matches: &mut [Option<Waiting>], changed: usize)
+// Plays again from one match up to the last.
+fn replay(matches: &mut [Option<Waiting>], from: usize)
     requires even { length matches.old ≡ 2 * places matches.old }
     requires few { places matches.old ≤ 1024 }
-    requires inside { (1 ≤ changed) × (changed < length matches.old) }
-    requires others { DecidedBut (changed / 2) matches.old }
+    requires inside { from < places matches.old }
+    requires others { DecidedBut from matches.old }
     ensures { Replayed matches.old matches.new }
 {
-    let mut at = changed;
-    let mut best = matches[at];
-    while at > 1 {
-        best = winner(best, matches[beside(at)]);
+    let mut at = from;
+    while at > 0 {
+        matches[at] = matches[winner(matches, at)];
         at /= 2;
-        matches[at] = best;
     }
 }
 
@@ -64,13 +59,13 @@ fn wins(cost: Cost, standing: Option<Waiting>) -> bool
 pub fn put(matches: &mut [Option<Waiting>], place: usize, cost: Cost)
     requires knockout { IsKnockout matches.old }
     requires inside { place < places matches.old }
-    requires few { place < 65536 }
+    requires few { places matches.old ≤ 1024 }
     requires below { Below cost (waits matches.old place) }
     ensures { PutIn place cost matches.old matches.new }
 {
     let waiting = Waiting {
         cost,
-        place: place as u16,
+        place: place as u32,
     };
     let leaf = matches.len() / 2 + place;
     matches[leaf] = Some(waiting);
@@ -92,6 +87,6 @@ pub fn take(matches: &mut [Option<Waiting>]) -> Option<Waiting>
     let least = matches[1]?;
     let at = matches.len() / 2 + least.place as usize;
     matches[at] = None;
-    replay(matches, at);
+    replay(matches, at / 2);
     Some(least)
 }

@@ -20,7 +20,7 @@ fn leads(cost: Option<Cost>, next: Option<Cost>, apart: u32) -> bool
         return false;
     };
     u64::from(next.length) + u64::from(apart) == u64::from(cost.length)
-        && u32::from(next.steps) + 1 == u32::from(cost.steps)
+        && u64::from(next.steps) + 1 == u64::from(cost.steps)
 }
 
 // The better of `best` and a neighbour of this cost: the neighbour, if a step to it goes on and it is smaller.

@@ -73,3 +73,6 @@ returns-after-loop-at c =
     let long : length m' ≡ length m = c.loop-at.auto.matches ∙ length-set m (places m + c.args.place) (Some w) in
     let none : c.loop-at.at ≡ 0 = omega (arith, c.loop-at-test.false) in
     put_in m m' c.args.place c.args.cost c.requires.knockout c.requires.inside long (subst (λ z. DecidedBut z m') none inv.1) inv.3 inv.4
+
+pub overflow_cast-waiting : goal.overflow_cast-waiting
+overflow_cast-waiting c = omega (arith, c.requires.inside, c.requires.few)

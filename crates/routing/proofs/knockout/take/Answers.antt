@@ -19,7 +19,7 @@ pub replay-requires-clause-inside : goal.replay-requires-clause-inside
 replay-requires-clause-inside c =
     let m = c.args.matches.now in
     let w = first_waits m c.requires.knockout c.requires.some c.in_ok-least.least c.in_ok-least.was in
-    (omega (arith, w.0, c.requires.some), omega (arith, w.0, c.requires.knockout.even, length-set m (places m + c.in_ok-least.least.place) None))
+    omega (arith, w.0, places_set m (places m + c.in_ok-least.least.place) None)
 
 pub replay-requires-clause-few : goal.replay-requires-clause-few
 replay-requires-clause-few c = omega (arith, c.requires.few, places_set c.args.matches.now (places c.args.matches.now + c.in_ok-least.least.place) None)
