@@ -13,7 +13,7 @@ use Rattle.gnat_rows.specs.Trees.{height}
 use Rattle.gnat_filing.specs.Dropping.{IsPivot, Droppable, Drops}
 use Rattle.gnat_filing.specs.Under.{LeavesUnderIn}
 
--- the node has the row in its leaf, or as one of its pivots
+-- the node is a leaf, or has the row as one of its pivots
 abbrev pub Holds : ℕ → Node → Type 0
 Holds at (node.Leaf l) = Unit {0}
 Holds at (node.Branch b) = IsPivot b at true

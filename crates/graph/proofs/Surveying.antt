@@ -1,5 +1,5 @@
 -- What edges by place say of islands and routes by number. Assumes nothing.
-use Rattle.std.proofs.Common.{◌≡◌, ℕ, ◌+◌, ◌-◌, ◌*◌, ◌<◌, ◌≤◌, ◌⊎◌, List, [], ◌∷◌, ◌++◌, map, length, get_or, take, drop, replicate, None, Some, Option, refl, sym, ap, ◌∙◌, subst, inl, inr, arith}
+use Rattle.std.proofs.Common.{◌≡◌, ℕ, ◌+◌, ◌*◌, ◌<◌, ◌≤◌, List, [], ◌∷◌, ◌++◌, map, length, take, drop, replicate, None, Some, Option, refl, sym, ap, ◌∙◌, subst, inl, inr, arith}
 use Rattle.std.specs.List.{AllByRecursion}
 use Rattle.std.proofs.lemmas.List.{take_all, length-map, take_at, drop_at, length-take-le, length-replicate}
 use Rattle.hits.specs.Lists.{over}
@@ -29,9 +29,6 @@ none_from None f = refl
 none_from (Some c) f = absurd (f c refl)
 
 module _ (links : List Links) (good : Good links) (edges : List Edge) (n : ℕ) (resolved : Resolved links (length links) edges n) where
-  abbrev pub standing_edges : List Edge
-  standing_edges = take n edges
-
   many : length (numbers links) ≡ length links
   many = length-map links (λ r. r.number)
 

@@ -47,12 +47,7 @@ fn island_in<const PLACES: usize, const EDGES: usize>(records: &Records, at: usi
 
 // The chosen chain from the record at `start` to that at `goal`, with tables for so many places, for twice as many, and for
 // eight and sixteen to a place.
-fn route_in<
-    const PLACES: usize,
-    const TWICE: usize,
-    const EDGES: usize,
-    const NEIGHBOURS: usize,
->(
+fn route_in<const PLACES: usize, const TWICE: usize, const EDGES: usize, const NEIGHBOURS: usize>(
     records: &Records,
     start: usize,
     goal: usize,

@@ -59,6 +59,7 @@ fn to_one_goal<'a, I: Index<Element = Spot> + Drop>(
         assert_eq!(rt; told, Ok((cost.length, cost.steps.saturating_add(1))));
         assert_eq!(rt; road.island(*start), least);
         let numbers = chain_from(heap, costs.as_slice(), edges.as_slice(), *start)?;
+        assert_eq!(rt; numbers.len(), cost.steps as usize + 1);
         for (place, number) in list.iter().zip(numbers.iter()) {
             assert_eq!(rt; *place, *number);
         }

@@ -1,5 +1,5 @@
 -- Ways up a forest. Assumes nothing.
-use Rattle.std.proofs.Common.{◌≡◌, ℕ, zero, suc, ◌+◌, ◌<◌, ◌≤◌, ◌⊎◌, List, [], ◌∷◌, length, get_or, set, slice_index, sym, refl, ap, ◌∙◌, subst, inl, inr, arith}
+use Rattle.std.proofs.Common.{◌≡◌, ℕ, zero, suc, ◌<◌, ◌≤◌, ◌⊎◌, List, [], ◌∷◌, length, get_or, set, slice_index, sym, refl, ap, ◌∙◌, subst, inl, inr, arith}
 use Rattle.std.specs.List.{AllByRecursion}
 use Rattle.std.proofs.lemmas.List.{get_or-set_same, get_or-set_other, length-set}
 use Rattle.std.proofs.lemmas.Bool.{cases_eq, cases_lt}
@@ -7,7 +7,7 @@ use Rattle.std.proofs.ByRecursion.{All-get_or}
 use Rattle.hits.specs.Samples.{Among}
 use Rattle.hits.proofs.Among.{all_among}
 use Rattle.chains.specs.declared.Edge.{Edge}
-use Rattle.chains.specs.Chains.{Starts, Ends, Chain, Joins, Joined}
+use Rattle.chains.specs.Chains.{Starts, Ends, Chain}
 use Rattle.chains.specs.Edges.{Linked, Inside, edge}
 use Rattle.chains.proofs.Joining.{joined_on, joined_back}
 use Rattle.routing.specs.Forests.{IsForest, Top, ends, climbs, JoinedIn, Grown, Together}

@@ -1,5 +1,5 @@
 -- Costs are settled when no place waits. Assumes nothing.
-use Rattle.std.proofs.Common.{◌≡◌, ℕ, zero, suc, ◌+◌, ◌*◌, ◌<◌, ◌≤◌, ◌≢◌, ◌⊎◌, true, false, List, [], ◌∷◌, length, get_or, set, replicate, sum, None, Some, Option, is_some, true≢false, sym, refl, ap, ◌∙◌, subst, inl, inr, arith, drop, ◌-◌, slice_index}
+use Rattle.std.proofs.Common.{◌≡◌, ℕ, zero, suc, ◌+◌, ◌*◌, ◌<◌, ◌≤◌, ◌⊎◌, true, false, List, [], ◌∷◌, length, get_or, set, replicate, sum, None, Some, Option, is_some, true≢false, sym, refl, ap, ◌∙◌, subst, inl, inr, arith, drop, ◌-◌, slice_index}
 use Rattle.std.specs.List.{AllByRecursion}
 use Rattle.std.proofs.ByRecursion.{All-weaker, All-take, All-drop}
 use Rattle.std.proofs.lemmas.List.{length-map, length-set, get_or-set_same, get_or-set_other, get_or-replicate, get_or_past, length-replicate}
@@ -7,14 +7,14 @@ use Rattle.std.proofs.lemmas.Bool.{cases_eq, cases_lt, both_ways}
 use Rattle.hits.specs.Samples.{Among}
 use Rattle.hits.proofs.Among.{all_among}
 use Rattle.chains.specs.declared.Edge.{Edge}
-use Rattle.chains.specs.Edges.{edge, Linked, Inside}
-use Rattle.chains.specs.Costs.{none, step_cost, cost_at, Way, stays, SettledAt, Attained, Settled}
+use Rattle.chains.specs.Edges.{Linked, Inside}
+use Rattle.chains.specs.Costs.{none, cost_at, Way, stays, SettledAt, Attained, Settled}
 use Rattle.routing.specs.declared.cost.Cost.{Cost}
 use Rattle.routing.specs.declared.knockout.Waiting.{Waiting}
 use Rattle.routing.specs.declared.neighbours.Neighbour.{Neighbour}
 use Rattle.routing.specs.Ranks.{cost_of, rank, rank_of, ranks, lowers}
-use Rattle.routing.specs.Layouts.{neighbour, neighbours_at, neighbours_of, LaidOut, Near}
-use Rattle.routing.specs.Knockouts.{waits, places, OnlyAt, Taken, nobody, least, IsKnockout, Decided, Best, entry}
+use Rattle.routing.specs.Layouts.{neighbour, neighbours_at, neighbours_of, Near}
+use Rattle.routing.specs.Knockouts.{waits, places, OnlyAt, Taken, nobody, least, IsKnockout, Best, entry}
 use Rattle.routing.specs.Settles.{Agrees, HandedOn, Offered, kept, lowered}
 use Rattle.routing.proofs.Laying.{link_here, here_link}
 use Rattle.routing.proofs.Offering.{Bounded, Waits, Served, CalmBut, Handed, NearIn, handed, handed_keeps, rank_at, some_or}
@@ -211,6 +211,11 @@ taken_some before after r w (least v m a b c d e f) s = subst (λ z. Out before 
 pub taken_none : (before after : List (Option Waiting)) (r : Option Waiting) → Taken before r after → ((w : Waiting) → r ≡ Some w → ⊥) → (p : ℕ) → p < places before → waits before p ≡ None
 taken_none before after r (nobody e) s p l = e p l
 taken_none before after r (least v m a b c d e f) s p l = absurd (s v refl)
+
+-- nobody waited: nothing is taken out
+pub taken_same : (before after : List (Option Waiting)) (r : Option Waiting) → Taken before r after → ((w : Waiting) → r ≡ Some w → ⊥) → after ≡ before
+taken_same before after r (nobody e) s = refl
+taken_same before after r (least v m a b c d e f) s = absurd (s v refl)
 
 -- the costs agree without the one taken out
 pub agrees_out : (costs : List (Option Cost)) (before after : List (Option Waiting)) (w : Waiting) → Agrees costs before → Out before w after → Agrees costs after

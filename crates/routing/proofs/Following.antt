@@ -1,5 +1,5 @@
 -- The walk along a chain of least cost, step by step, and that there is one. Assumes nothing.
-use Rattle.std.proofs.Common.{◌≡◌, ℕ, zero, suc, ◌+◌, ◌-◌, ◌*◌, ◌<◌, ◌≤◌, min, Bool, true, false, cond, ◌&&◌, eqb, ◌⊎◌, List, [], ◌∷◌, ◌++◌, length, get_or, drop, set, map, None, Some, Option, is_some, true≢false, sym, refl, ap, ◌∙◌, subst, inl, inr, arith, length-append}
+use Rattle.std.proofs.Common.{◌≡◌, ℕ, zero, suc, ◌+◌, ◌-◌, ◌<◌, ◌≤◌, min, Bool, true, false, cond, ◌⊎◌, List, [], ◌∷◌, ◌++◌, length, get_or, drop, set, None, Some, Option, is_some, true≢false, sym, refl, ap, ◌∙◌, subst, inl, inr, arith, length-append}
 use Rattle.std.specs.List.{AllByRecursion}
 use Rattle.std.proofs.lemmas.List.{append_assoc, set-append_right, drop_more, length-map}
 use Rattle.std.proofs.lemmas.Bool.{cases_lt, both_ways}
@@ -9,7 +9,7 @@ use Rattle.hits.specs.Lists.{over}
 use Rattle.hits.proofs.Among.{among_left, among_right, among_append, all_among}
 use Rattle.chains.specs.declared.Edge.{Edge}
 use Rattle.chains.specs.Chains.{Route}
-use Rattle.chains.specs.Edges.{edge, Linked, Inside}
+use Rattle.chains.specs.Edges.{Linked, Inside}
 use Rattle.chains.specs.Costs.{none, step_cost, cost_at, Settled, Onward}
 use Rattle.chains.proofs.Settling as settling
 use Rattle.routing.specs.declared.cost.Cost.{Cost}
@@ -100,9 +100,6 @@ smallest_any c costs (n ∷ ns) =
 module _ (edges : List Edge) (goal : ℕ) (costs : List (Option Cost)) (few : length costs ≤ 1024) (inside : AllByRecursion (Inside (length costs)) edges) (settled : Settled edges goal (ranks costs)) (steps : FewSteps costs) where
   many : length (ranks costs) ≡ length costs
   many = length-map costs rank_of
-
-  abbrev pub cs : List ℕ
-  cs = ranks costs
 
   pub few' : length (ranks costs) ≤ 1024
   few' = omega (arith, many)

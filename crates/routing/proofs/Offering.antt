@@ -1,21 +1,20 @@
 -- Costs that are offered: how far they fall, and that they stay costs of chains. Assumes nothing.
-use Rattle.std.proofs.Common.{◌≡◌, ℕ, zero, suc, ◌+◌, ◌*◌, ◌<◌, ◌≤◌, Bool, true, false, cond, ltb, ◌⊎◌, List, [], ◌∷◌, ◌++◌, map, length, get_or, set, sum, None, Some, Option, sym, refl, ap, ◌∙◌, subst, inl, inr, arith}
+use Rattle.std.proofs.Common.{◌≡◌, ℕ, zero, suc, ◌+◌, ◌*◌, ◌<◌, ◌≤◌, true, false, ◌⊎◌, List, [], ◌∷◌, ◌++◌, length, set, sum, None, Some, Option, sym, refl, ap, ◌∙◌, subst, inl, inr, arith}
 use Rattle.std.specs.List.{AllByRecursion}
-use Rattle.std.proofs.lemmas.List.{map-set, length-map, length-set, get_or-set_same, get_or-set_other, get_or_past}
+use Rattle.std.proofs.lemmas.List.{map-set, length-map, length-set, get_or-set_same, get_or-set_other}
 use Rattle.std.proofs.lemmas.List.Sums.{sum_by-set}
-use Rattle.std.proofs.lemmas.Bool.{cases_eq, cases_lt, both_ways}
+use Rattle.std.proofs.lemmas.Bool.{cases_eq, both_ways}
 use Rattle.std.proofs.lemmas.Bool.Decides.{nat_tests}
 use Rattle.hits.specs.Samples.{Among}
 use Rattle.chains.specs.declared.Edge.{Edge}
-use Rattle.chains.specs.Edges.{edge, Linked, Inside}
-use Rattle.chains.specs.Costs.{none, step_cost, cost_at, Way, stays, goes, SettledAt, Attained, Settled}
+use Rattle.chains.specs.Edges.{Linked}
+use Rattle.chains.specs.Costs.{none, step_cost, cost_at, Way, goes, Attained}
 use Rattle.chains.proofs.Settling.{below, below_one, below_few, below_set}
 use Rattle.routing.specs.declared.cost.Cost.{Cost}
 use Rattle.routing.specs.declared.knockout.Waiting.{Waiting}
 use Rattle.routing.specs.declared.neighbours.Neighbour.{Neighbour}
 use Rattle.routing.specs.Ranks.{cheaper, lowers, onward, cost_of, rank, rank_of, ranks}
-use Rattle.routing.specs.Layouts.{neighbour}
-use Rattle.routing.specs.Knockouts.{PutIn, waits, places}
+use Rattle.routing.specs.Knockouts.{waits}
 use Rattle.routing.specs.Settles.{Offered, kept, lowered, HandedOn, none_left, one_more}
 
 -- one more neighbour is offered behind the others

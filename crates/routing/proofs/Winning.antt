@@ -1,12 +1,12 @@
 -- Matches of a knockout: who wins, what one entry changes, and that the one of least cost stands at 1. Assumes nothing.
-use Rattle.std.proofs.Common.{◌≡◌, ℕ, zero, suc, ◌+◌, ◌*◌, ◌/◌, ◌<◌, ◌≤◌, ◌⊎◌, ◌≢◌, Bool, true, false, cond, ◌-◌, List, length, get_or, set, Some, None, Option, sym, refl, ap, ◌∙◌, subst, inl, inr, arith, length-set}
+use Rattle.std.proofs.Common.{◌≡◌, ℕ, zero, suc, ◌+◌, ◌*◌, ◌/◌, ◌<◌, ◌≤◌, ◌⊎◌, ◌≢◌, Bool, true, false, cond, ◌-◌, List, length, set, Some, None, Option, sym, refl, ap, ◌∙◌, subst, inl, inr, arith, length-set}
 use Rattle.std.proofs.lemmas.List.{get_or-set_same, get_or-set_other}
 use Rattle.std.proofs.lemmas.Bool.{cases_eq, cases_lt, both_ways}
 use Rattle.std.proofs.lemmas.Bool.Decides.{nat_tests}
 use Rattle.routing.specs.declared.cost.Cost.{Cost}
 use Rattle.routing.specs.declared.knockout.Waiting.{Waiting}
 use Rattle.routing.specs.Ranks.{cheaper}
-use Rattle.routing.specs.Knockouts.{winner_of, wins_of, NoDearer, Below, Best, entry, places, waits, Decided, DecidedBut, IsKnockout, OnlyAt, PutIn, Taken, nobody, least, Replayed}
+use Rattle.routing.specs.Knockouts.{winner_of, wins_of, NoDearer, Below, Best, entry, places, waits, Decided, DecidedBut, IsKnockout, OnlyAt}
 
 cheaper_not : (a : Cost) → cheaper a a ≡ false
 unfolding cheaper
@@ -201,16 +201,6 @@ nobody_waits m k e p l = go (waits m p) refl (subst (λ z. NoDearer z (waits m p
     go : (x : Option Waiting) → waits m p ≡ x → NoDearer None (waits m p) → waits m p ≡ None
     go None s d = s
     go (Some b) s d = absurd (subst (NoDearer None) s d)
-
--- the places wait as before
-same_waits : (before after : List (Option Waiting)) → length after ≡ length before → ((i : ℕ) → places before ≤ i → entry after i ≡ entry before i) → (q : ℕ) → waits after q ≡ waits before q
-same_waits before after long same q = ap (λ n. entry after (n + q)) (ap (λ n. n / 2) long) ∙ same (places before + q) (omega arith)
-
-set_waits_other : (m : List (Option Waiting)) (p q : ℕ) (x : Option Waiting) → q ≢ p → waits (set m (places m + p) x) q ≡ waits m q
-set_waits_other m p q x n = ap (λ k. entry (set m (places m + p) x) (k + q)) (places_set m (places m + p) x) ∙ get_or-set_other m (places m + p) (places m + q) x None (λ (z : places m + q ≡ places m + p). n (omega (arith, z)))
-
-set_waits_here : (m : List (Option Waiting)) (p : ℕ) (x : Option Waiting) → places m + p < length m → waits (set m (places m + p) x) p ≡ x
-set_waits_here m p x l = ap (λ k. entry (set m (places m + p) x) (k + p)) (places_set m (places m + p) x) ∙ get_or-set_same m (places m + p) x None l
 
 -- p waits as x now, and all is decided again
 module _ (m m' : List (Option Waiting)) (p : ℕ) (k : IsKnockout m) (l : p < places m) (long : length m' ≡ length m) (decided : DecidedBut 0 m') (x : Option Waiting)

@@ -23,7 +23,8 @@ lowers c (Some known) = cheaper c known
 abbrev pub cost_of : List (Option Cost) → ℕ → Option Cost
 cost_of costs i = slice_index_or costs i None
 
--- the number that the theory of chains has for a cost: it orders the costs of chains of fewer than 65,536 steps as they are
+-- The number that the theory of chains has for a cost. It orders the costs of chains of fewer than 65,536 steps as they are, and
+-- settled costs have fewer steps than there are places.
 abbrev pub rank : Cost → ℕ
 rank c = c.length * 65536 + c.steps
 

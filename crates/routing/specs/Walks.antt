@@ -1,5 +1,5 @@
 -- The walk along a chain of least cost.
-use Rattle.std.specs.Prelude.{◌≡◌, ℕ, ◌+◌, ◌<◌, ◌≤◌, min, Bool, true, false, cond, ◌&&◌, List, length, Some, None, Option, ◌==◌}
+use Rattle.std.specs.Prelude.{◌≡◌, ℕ, ◌+◌, ◌<◌, ◌≤◌, min, Bool, true, false, cond, ◌&&◌, List, Some, None, Option, ◌==◌}
 use Rattle.hits.specs.Lists.{over}
 use Rattle.hits.specs.Samples.{Among}
 use Rattle.chains.specs.declared.Edge.{Edge}

@@ -3,7 +3,7 @@ ghost use Rattle.std.specs.Prelude.{◌≡◌, ◌+◌, ◌<◌};
 ghost use Rattle.routing.specs.Ranks.{onward, lowers};
 
 /// The length of a chain and the count of its steps. The shorter chain costs less, and of equally
-/// long ones that of fewer steps: the derived order.
+/// long ones that of fewer steps: the derived order. Both have 32 bits, so that a cost is copied as one word.
 #[derive(Clone, Copy, PartialEq, Eq, PartialOrd, Ord)]
 pub struct Cost {
     pub length: u32,

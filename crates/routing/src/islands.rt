@@ -48,7 +48,8 @@ pub fn island_of(edges: &[Edge], parents: &mut [u16], at: usize) -> usize
     requires at { at < length parents.old }
     requires few { length parents.old ≤ 1024 }
     requires inside { AllByRecursion (Inside (length parents.old)) edges.now }
-    ensures { Island (λ i. i < length parents.old) (Linked edges.now) at result }
+    ensures island { Island (λ i. i < length parents.old) (Linked edges.now) at result }
+    ensures forest { IsForest parents.new }
 {
     for (place, parent) in parents.iter_mut().enumerate() {
         *parent = place as u16;

@@ -1,11 +1,12 @@
 // The least costs of chains to a goal.
-ghost use Rattle.std.specs.Prelude.{◌≡◌, ℕ, ◌+◌, ◌*◌, ◌<◌, ◌≤◌, List, length};
+ghost use Rattle.std.specs.Prelude.{◌≡◌, ℕ, ◌+◌, ◌*◌, ◌<◌, ◌≤◌, List, length, None};
 ghost use Rattle.chains.specs.declared.Edge.{Edge};
 ghost use Rattle.std.specs.List.{AllByRecursion};
 ghost use Rattle.chains.specs.Edges.{Inside};
 ghost use Rattle.chains.specs.Costs.{Settled};
 ghost use Rattle.routing.specs.Ranks.{ranks};
 ghost use Rattle.routing.specs.Layouts.{LaidOut};
+ghost use Rattle.routing.specs.Knockouts.{waits};
 ghost use Rattle.routing.specs.Settles.{Agrees, Offered, HandedOn, FewSteps};
 
 use crate::cost::Cost;
@@ -62,6 +63,7 @@ pub fn settle(
     requires few { length costs.old ≤ 1024 }
     requires ends { length neighbours.now.ends.now ≡ length costs.old + 1 }
     requires twice { length waiting.old ≡ 2 * length costs.old }
+    ensures nobody { (p : ℕ) → p < length costs.old → waits waiting.new p ≡ None }
     ensures few { FewSteps costs.new }
     ensures settled { (edges : List Edge) → LaidOut edges neighbours.now.ends.now neighbours.now.all.now → AllByRecursion (Inside (length costs.old)) edges → Settled edges goal (ranks costs.new) }
 {

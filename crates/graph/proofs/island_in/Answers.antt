@@ -1,8 +1,6 @@
-use Rattle.std.proofs.Common.{◌≡◌, ℕ, ◌<◌, [], length, take, get_or, subst, sym, arith}
-use Rattle.std.proofs.lemmas.List.{length-take-le}
+use Rattle.std.proofs.Common.{ℕ, ◌<◌, [], length, take, subst, sym, arith}
 use Rattle.chains.specs.Chains.{Island}
 use Rattle.chains.specs.Edges.{Linked}
-use Rattle.chains.proofs.Joining.{joins_end}
 use Rattle.links.specs.Records.{number_at, edges_of}
 use Rattle.links.proofs.Resolving.{number_is}
 use Rattle.graph.specs.Routes.{Standing}
@@ -15,12 +13,12 @@ zero' = 0
 pub bounds-records-place : goal.bounds-records-place
 bounds-records-place g c =
     let links = c.args.records.now.all.now in
-    island_inside links c.args.records.now.good c.resolve-made.new.edges c.resolve-made.result c.resolve-made.ensures.resolved c.args.at c.island_of-place.result _ (front_long zero' (length links) g.row.PLACES c.requires.places.0) c.island_of-place.ensures
+    island_inside links c.args.records.now.good c.resolve-made.new.edges c.resolve-made.result c.resolve-made.ensures.resolved c.args.at c.island_of-place.result _ (front_long zero' (length links) g.row.PLACES c.requires.places.0) c.island_of-place.ensures.island
 
 pub offset_bounds-records-place : goal.offset_bounds-records-place
 offset_bounds-records-place g c =
     let links = c.args.records.now.all.now in
-    let i = island_inside links c.args.records.now.good c.resolve-made.new.edges c.resolve-made.result c.resolve-made.ensures.resolved c.args.at c.island_of-place.result _ (front_long zero' (length links) g.row.PLACES c.requires.places.0) c.island_of-place.ensures in
+    let i = island_inside links c.args.records.now.good c.resolve-made.new.edges c.resolve-made.result c.resolve-made.ensures.resolved c.args.at c.island_of-place.result _ (front_long zero' (length links) g.row.PLACES c.requires.places.0) c.island_of-place.ensures.island in
     omega (arith, c.args.records.now.good.few)
 
 pub returns : goal.returns
@@ -32,6 +30,6 @@ returns g c =
     let r = c.island_of-place.result in
     let resolved = c.resolve-made.ensures.resolved in
     let long = front_long zero' (length links) g.row.PLACES c.requires.places.0 in
-    let i = island_inside links good es made resolved c.args.at r _ long c.island_of-place.ensures in
+    let i = island_inside links good es made resolved c.args.at r _ long c.island_of-place.ensures.island in
     subst (Island (Standing links) (Linked (edges_of links)) (number_at links c.args.at)) (sym (number_is links r (record { number = 0; count = 0; elders = [] }) i))
-    (island_named links good es made resolved c.args.at r (subst (λ n. Island (λ i. i < n) (Linked (take made es)) c.args.at r) long c.island_of-place.ensures))
+    (island_named links good es made resolved c.args.at r (subst (λ n. Island (λ i. i < n) (Linked (take made es)) c.args.at r) long c.island_of-place.ensures.island))

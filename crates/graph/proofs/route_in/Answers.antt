@@ -1,4 +1,4 @@
-use Rattle.std.proofs.Common.{◌≡◌, ℕ, ◌+◌, ◌<◌, ◌≤◌, List, length, take, Some, None, Option, refl, sym, subst, ◌∙◌, arith}
+use Rattle.std.proofs.Common.{◌≡◌, ℕ, ◌<◌, List, length, take, None, Option, refl, sym, subst, ◌∙◌, arith}
 use Rattle.std.specs.List.{AllByRecursion}
 use Rattle.chains.specs.declared.Edge.{Edge}
 use Rattle.chains.specs.Edges.{Inside}
@@ -14,15 +14,15 @@ use Rattle.links.specs.Records.{Resolved}
 use Rattle.graph.proofs.Surveying.{none_from, routed_apart, routed_short, routed_written, walked_inside, front_long, reached}
 use Rattle.graph.proofs.route_in.Goals as goal
 
--- what a survey knows: its costs are settled over the edges that were laid out
+-- what is known of the costs: they are settled over the edges that were laid out
 record Known (links : List Links) (edges : List Edge) (made goal : ℕ) (costs : List (Option Cost)) : Type 0 where
   pub long : length costs ≡ length links
   pub settled : Settled (take made edges) goal (ranks costs)
   pub steps : FewSteps costs
 
-known : (links : List Links) (edges : List Edge) (made goal size : ℕ) (ends ends' : List ℕ) (all all' : List Neighbour) (old costs : List (Option Cost)) → Resolved links (length links) edges made → length old ≡ length links → length costs ≡ length old
+known : (links : List Links) (edges : List Edge) (made goal : ℕ) (ends ends' : List ℕ) (all all' : List Neighbour) (old costs : List (Option Cost)) → Resolved links (length links) edges made → length old ≡ length links → length costs ≡ length old
     → ends' ≡ ends → all' ≡ all → LaidOut (take made edges) ends all → FewSteps costs → ((es : List Edge) → LaidOut es ends' all' → AllByRecursion (Inside (length old)) es → Settled es goal (ranks costs)) → Known links edges made goal costs
-known links edges made goal size ends ends' all all' old costs r l m e a laid steps f = record {
+known links edges made goal ends ends' all all' old costs r l m e a laid steps f = record {
   long = m ∙ l;
   settled = f (take made edges) (subst (λ z. LaidOut (take made edges) z all') (sym e) (subst (LaidOut (take made edges) ends) (sym a) laid)) (subst (λ n. AllByRecursion (Inside n) (take made edges)) (sym l) r.inside);
   steps = steps;
@@ -32,8 +32,8 @@ pub returns-in_default : goal.returns-in_default
 returns-in_default g c =
     let links = c.args.records.now.all.now in
     let r = c.resolve-made.ensures.resolved in
-    let k = known links c.resolve-made.new.edges c.resolve-made.result c.args.goal 0 c.lay_out.new.ends c.new-neighbours.result.ends.now c.lay_out.new.all c.new-neighbours.result.all.now _ c.settle.new.costs r (front_long None (length links) g.row.PLACES c.requires.places.0) c.settle.auto.costs
-        c.new-neighbours.ensures.ends c.new-neighbours.ensures.all c.lay_out.ensures.laid c.settle.ensures.few c.settle.ensures.settled in
+    let k = known links c.resolve-made.new.edges c.resolve-made.result c.args.goal c.lay_out.new.ends c.new-neighbours.result.ends.now c.lay_out.new.all c.new-neighbours.result.all.now _ c.settle.new.costs r (front_long None (length links) g.row.PLACES c.requires.places.0) c.settle.auto.costs
+    c.new-neighbours.ensures.ends c.new-neighbours.ensures.all c.lay_out.ensures.laid c.settle.ensures.few c.settle.ensures.settled in
     routed_apart links c.args.records.now.good c.resolve-made.new.edges c.resolve-made.result r c.args.goal c.settle.new.costs k.long k.settled k.steps c.args.start c.requires.ends.0 c.requires.ends.1 c.args.list.now
     (none_from (cost_of c.settle.new.costs c.args.start) c.in_default.not-Some)
 
@@ -41,8 +41,8 @@ pub returns-then-list-count : goal.returns-then-list-count
 returns-then-list-count g c =
     let links = c.args.records.now.all.now in
     let r = c.resolve-made.ensures.resolved in
-    let k = known links c.resolve-made.new.edges c.resolve-made.result c.args.goal 0 c.lay_out.new.ends c.new-neighbours.result.ends.now c.lay_out.new.all c.new-neighbours.result.all.now _ c.settle.new.costs r (front_long None (length links) g.row.PLACES c.requires.places.0) c.settle.auto.costs
-        c.new-neighbours.ensures.ends c.new-neighbours.ensures.all c.lay_out.ensures.laid c.settle.ensures.few c.settle.ensures.settled in
+    let k = known links c.resolve-made.new.edges c.resolve-made.result c.args.goal c.lay_out.new.ends c.new-neighbours.result.ends.now c.lay_out.new.all c.new-neighbours.result.all.now _ c.settle.new.costs r (front_long None (length links) g.row.PLACES c.requires.places.0) c.settle.auto.costs
+    c.new-neighbours.ensures.ends c.new-neighbours.ensures.all c.lay_out.ensures.laid c.settle.ensures.few c.settle.ensures.settled in
     routed_short links c.args.records.now.good c.resolve-made.new.edges c.resolve-made.result r c.args.goal c.settle.new.costs k.long k.settled k.steps c.args.start c.requires.ends.0 c.requires.ends.1 c.args.list.now
     c.in-Some.cost c.in-Some.is c.if-list-count.true
 
@@ -62,8 +62,8 @@ rename-requires g c =
     let r = c.resolve-made.ensures.resolved in
     let costs = c.settle.new.costs in
     let start = c.args.start in
-    let k = known links es made c.args.goal 0 c.lay_out.new.ends c.new-neighbours.result.ends.now c.lay_out.new.all c.new-neighbours.result.all.now _ costs r (front_long None (length links) g.row.PLACES c.requires.places.0) c.settle.auto.costs
-        c.new-neighbours.ensures.ends c.new-neighbours.ensures.all c.lay_out.ensures.laid c.settle.ensures.few c.settle.ensures.settled in
+    let k = known links es made c.args.goal c.lay_out.new.ends c.new-neighbours.result.ends.now c.lay_out.new.all c.new-neighbours.result.all.now _ costs r (front_long None (length links) g.row.PLACES c.requires.places.0) c.settle.auto.costs
+    c.new-neighbours.ensures.ends c.new-neighbours.ensures.all c.lay_out.ensures.laid c.settle.ensures.few c.settle.ensures.settled in
     let l = reached links good es made r c.args.goal costs k.long k.settled k.steps start c.requires.ends.0 c.requires.ends.1 c.args.list.now c.in-Some.cost c.in-Some.is in
     let w = walked links es made c.args.goal start c.lay_out.new.ends c.new-neighbours.result.ends.now c.lay_out.new.all c.new-neighbours.result.all.now costs c.args.list.now c.walk.new.list k r l c.new-neighbours.ensures.ends c.new-neighbours.ensures.all c.lay_out.ensures.laid c.walk.ensures in
     walked_inside links good es made r c.args.goal costs k.long k.settled k.steps start c.requires.ends.0 c.requires.ends.1 c.args.list.now c.in-Some.cost c.in-Some.is c.walk.new.list w _ refl
@@ -77,8 +77,8 @@ returns g c =
     let r = c.resolve-made.ensures.resolved in
     let costs = c.settle.new.costs in
     let start = c.args.start in
-    let k = known links es made c.args.goal 0 c.lay_out.new.ends c.new-neighbours.result.ends.now c.lay_out.new.all c.new-neighbours.result.all.now _ costs r (front_long None (length links) g.row.PLACES c.requires.places.0) c.settle.auto.costs
-        c.new-neighbours.ensures.ends c.new-neighbours.ensures.all c.lay_out.ensures.laid c.settle.ensures.few c.settle.ensures.settled in
+    let k = known links es made c.args.goal c.lay_out.new.ends c.new-neighbours.result.ends.now c.lay_out.new.all c.new-neighbours.result.all.now _ costs r (front_long None (length links) g.row.PLACES c.requires.places.0) c.settle.auto.costs
+    c.new-neighbours.ensures.ends c.new-neighbours.ensures.all c.lay_out.ensures.laid c.settle.ensures.few c.settle.ensures.settled in
     let l = reached links good es made r c.args.goal costs k.long k.settled k.steps start c.requires.ends.0 c.requires.ends.1 c.args.list.now c.in-Some.cost c.in-Some.is in
     let w = walked links es made c.args.goal start c.lay_out.new.ends c.new-neighbours.result.ends.now c.lay_out.new.all c.new-neighbours.result.all.now costs c.args.list.now c.walk.new.list k r l c.new-neighbours.ensures.ends c.new-neighbours.ensures.all c.lay_out.ensures.laid c.walk.ensures in
     routed_written links good es made r c.args.goal costs k.long k.settled k.steps start c.requires.ends.0 c.requires.ends.1 c.args.list.now c.in-Some.cost c.in-Some.is c.walk.new.list w _ refl c.rename.new.list (omega arith) c.rename.ensures

@@ -1,4 +1,4 @@
-use Rattle.std.proofs.Common.{◌≡◌, ◌+◌, ◌-◌, ℕ, ◌<◌, false, List, [], length, get_or, take, drop, None, Some, sym, ap, ◌∙◌, subst, arith}
+use Rattle.std.proofs.Common.{◌≡◌, ◌+◌, ◌-◌, ℕ, ◌<◌, false, List, [], length, get_or, take, drop, Some, sym, ap, ◌∙◌, subst, arith}
 use Rattle.links.specs.declared.Links.{Links}
 use Rattle.links.specs.Records.{number_at, numbers, has, Found}
 use Rattle.links.proofs.Resolving.{number_is}

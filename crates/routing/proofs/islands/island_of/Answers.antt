@@ -1,11 +1,11 @@
-use Rattle.std.proofs.Common.{◌≡◌, ℕ, ◌+◌, ◌<◌, ◌≤◌, List, length, get_or, take, slice_index, sym, ap, ◌∙◌, subst, inl, inr, arith}
+use Rattle.std.proofs.Common.{◌≡◌, ℕ, ◌<◌, List, length, take, slice_index, sym, ◌∙◌, subst, arith}
 use Rattle.std.specs.List.{AllByRecursion}
-use Rattle.std.proofs.ByRecursion.{All-get_or, All-weaker, All-more}
+use Rattle.std.proofs.ByRecursion.{All-weaker, All-more}
 use Rattle.std.proofs.lemmas.List.{take_all}
 use Rattle.chains.specs.declared.Edge.{Edge}
 use Rattle.chains.specs.Chains.{Island}
 use Rattle.chains.specs.Edges.{edge, Inside, Linked}
-use Rattle.routing.specs.Forests.{IsForest, Grown, JoinedIn, Together, Climbed}
+use Rattle.routing.specs.Forests.{Grown, JoinedIn, Together, Climbed}
 use Rattle.routing.proofs.Climbing.{itself, one_edge, top_joined, joined_together, top_one, top_below}
 use Rattle.routing.proofs.islands.island_of.Goals as goal
 
@@ -44,8 +44,11 @@ island_is edges before parents n at r long l g all k = subst (λ m. Island (λ i
       omega (arith, top_one parents at r t.0 k.top t.1, top_below parents j t.0 t.2);
 })
 
-pub returns : goal.returns
-returns c =
+pub returns-clause-forest : goal.returns-clause-forest
+returns-clause-forest c = c.top.ensures.forest
+
+pub returns-clause-island : goal.returns-clause-island
+returns-clause-island c =
     let es = c.args.edges.now in
     let inv = c.loop-edge.invariant in
     island_is es c.loop-edge.parents c.top.new.parents (length c.args.parents.now) c.args.at c.top.result (c.loop-edge.auto.parents ∙ c.loop-place.auto.parents) c.requires.at inv.1

@@ -1,4 +1,4 @@
-use Rattle.std.proofs.Common.{◌≡◌, ℕ, ◌<◌, ◌≤◌, length, take, slice_index}
+use Rattle.std.proofs.Common.{◌≡◌, ℕ, ◌<◌, take, slice_index}
 use Rattle.std.specs.List.{AllByRecursion}
 use Rattle.routing.specs.Forests.{IsForest, Grown, Together}
 use Rattle.routing.proofs.islands.island_of.Given as goal

@@ -1,6 +1,6 @@
-use Rattle.std.proofs.Common.{◌≡◌, ℕ, ◌+◌, ◌<◌, ◌≤◌, List, slice_index, set, sym, subst, arith}
+use Rattle.std.proofs.Common.{◌≡◌, slice_index, set, sym, subst, arith}
 use Rattle.std.proofs.lemmas.List.{get_or-set_same}
-use Rattle.routing.specs.Forests.{Top, ends, Climbed}
+use Rattle.routing.specs.Forests.{Top, ends}
 use Rattle.routing.proofs.Climbing.{Climbing, climb_starts, climb_step, top_one, top_below}
 use Rattle.routing.proofs.islands.top.Goals as goal
 

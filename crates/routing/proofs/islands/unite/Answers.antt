@@ -1,7 +1,6 @@
 use Rattle.std.proofs.Common.{◌≡◌, ℕ, ◌<◌, ◌≤◌, ◌⊎◌, List, length, set, sym, refl, ◌∙◌, subst, inl, inr, arith}
 use Rattle.std.proofs.lemmas.List.{length-set}
-use Rattle.chains.specs.declared.Edge.{Edge}
-use Rattle.routing.specs.Forests.{IsForest, Top, JoinedIn, Grown, Together, Climbed, United}
+use Rattle.routing.specs.Forests.{Top, JoinedIn, Climbed, United}
 use Rattle.routing.proofs.Climbing.{link_together, link_still, link_forest, link_grown, same_parent}
 use Rattle.routing.proofs.islands.unite.Goals as goal
 

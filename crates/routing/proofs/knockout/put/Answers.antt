@@ -1,9 +1,9 @@
-use Rattle.std.proofs.Common.{◌≡◌, ℕ, ◌+◌, ◌*◌, ◌/◌, ◌<◌, ◌≤◌, ◌≢◌, length, set, List, None, Some, Option, sym, ap, ◌∙◌, subst, arith}
+use Rattle.std.proofs.Common.{◌≡◌, ℕ, ◌+◌, ◌*◌, ◌<◌, ◌≤◌, ◌≢◌, length, List, None, Some, Option, sym, ap, ◌∙◌, subst, arith}
 use Rattle.std.proofs.lemmas.List.{get_or-set_same, get_or-set_other, length-set}
 use Rattle.routing.specs.declared.cost.Cost.{Cost}
 use Rattle.routing.specs.declared.knockout.Waiting.{Waiting}
-use Rattle.routing.specs.Knockouts.{entry, places, Decided, DecidedBut, IsKnockout, PutIn}
-use Rattle.routing.proofs.Winning.{Open, open_stops, open_wins, open_above, wins_below, decided_above, all_but, place_or, changed_here, changed_only, changed_knockout, places_set}
+use Rattle.routing.specs.Knockouts.{entry, places, DecidedBut, IsKnockout, PutIn}
+use Rattle.routing.proofs.Winning.{open_stops, open_wins, open_above, wins_below, decided_above, all_but, place_or, changed_here, changed_only, changed_knockout}
 use Rattle.routing.proofs.knockout.put.Goals as goal
 
 pub loop-at-init : goal.loop-at-init

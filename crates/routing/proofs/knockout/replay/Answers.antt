@@ -1,6 +1,6 @@
-use Rattle.std.proofs.Common.{◌≡◌, ℕ, ◌+◌, ◌*◌, ◌/◌, ◌<◌, ◌≤◌, None, ◌∙◌, arith}
+use Rattle.std.proofs.Common.{None, ◌∙◌, arith}
 use Rattle.std.proofs.lemmas.List.{get_or-set_other}
-use Rattle.routing.specs.Knockouts.{entry, places}
+use Rattle.routing.specs.Knockouts.{entry}
 use Rattle.routing.proofs.Winning.{replay_step}
 use Rattle.routing.proofs.knockout.replay.Goals as goal
 

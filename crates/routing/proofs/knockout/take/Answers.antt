@@ -1,6 +1,5 @@
-use Rattle.std.proofs.Common.{◌≡◌, ℕ, ◌+◌, ◌/◌, ◌<◌, ◌≤◌, ◌≢◌, length, get_or, set, None, Some, is_some, true≢false, sym, ap, ◌∙◌, subst, arith}
+use Rattle.std.proofs.Common.{◌≡◌, ℕ, ◌+◌, ◌<◌, ◌≤◌, ◌≢◌, length, None, Some, is_some, true≢false, sym, ap, ◌∙◌, subst, arith}
 use Rattle.std.proofs.lemmas.List.{get_or-set_same, get_or-set_other, length-set}
-use Rattle.std.specs.ControlFlow.{continue_value}
 use Rattle.routing.specs.declared.knockout.Waiting.{Waiting}
 use Rattle.routing.specs.Knockouts.{entry, places, waits, NoDearer, Taken, nobody, least}
 use Rattle.routing.proofs.Winning.{first_waits, all_dearer, nobody_waits, decided_above, changed_here, changed_only, changed_knockout, places_set}

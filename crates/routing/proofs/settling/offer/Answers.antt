@@ -1,10 +1,10 @@
-use Rattle.std.proofs.Common.{◌≡◌, ℕ, ◌+◌, ◌*◌, ◌<◌, ◌≤◌, ◌⊎◌, true, false, List, length, set, None, Some, Option, sym, refl, ap, ◌∙◌, subst, inl, inr, arith}
+use Rattle.std.proofs.Common.{◌≡◌, ℕ, ◌<◌, ◌⊎◌, true, List, length, set, None, Some, Option, sym, refl, ap, ◌∙◌, subst, inl, inr, arith}
 use Rattle.std.proofs.lemmas.List.{length-set, get_or-set_same, get_or-set_other}
 use Rattle.std.proofs.lemmas.Bool.{cases_eq}
 use Rattle.routing.specs.declared.cost.Cost.{Cost}
 use Rattle.routing.specs.declared.knockout.Waiting.{Waiting}
 use Rattle.routing.specs.Ranks.{lowers, cost_of}
-use Rattle.routing.specs.Knockouts.{Below, PutIn, waits, places}
+use Rattle.routing.specs.Knockouts.{Below, PutIn, waits}
 use Rattle.routing.specs.Settles.{Agrees, kept, lowered}
 use Rattle.routing.proofs.Winning.{cost_or}
 use Rattle.routing.proofs.settling.offer.Goals as goal

@@ -1,14 +1,11 @@
-use Rattle.std.proofs.Common.{◌≡◌, ℕ, ◌+◌, ◌*◌, ◌<◌, ◌≤◌, List, length, None, Some, Option, is_some, rules, sym, refl, ap, ◌∙◌, subst, arith}
-use Rattle.std.specs.List.{AllByRecursion}
-use Rattle.chains.specs.declared.Edge.{Edge}
+use Rattle.std.proofs.Common.{◌≡◌, ℕ, ◌<◌, ◌≤◌, List, length, None, Option, rules, sym, refl, ap, ◌∙◌, subst, arith}
 use Rattle.routing.specs.declared.cost.Cost.{Cost}
 use Rattle.routing.specs.declared.knockout.Waiting.{Waiting}
 use Rattle.routing.specs.Ranks.{cost_of}
-use Rattle.routing.specs.Knockouts.{entry}
-use Rattle.routing.specs.Layouts.{neighbours_at}
+use Rattle.routing.specs.Knockouts.{waits, entry}
 use Rattle.routing.specs.Settles.{Agrees}
 use Rattle.routing.proofs.Offering.{Bounded, NearIn, steps_few, cost_short}
-use Rattle.routing.proofs.Emptying.{nobody_at, blank_agrees, start_bounded, start_underway, taken_some, taken_none, agrees_out, near_here, done, lower, underway_on, settled_when, Out}
+use Rattle.routing.proofs.Emptying.{nobody_at, blank_agrees, start_bounded, start_underway, taken_some, taken_none, taken_same, agrees_out, near_here, done, lower, underway_on, settled_when, Out}
 use Rattle.routing.proofs.settling.settle.Goals as goal
 
 pub offer-requires-clause-agree : goal.offer-requires-clause-agree
@@ -72,7 +69,9 @@ loop-next-preserved c =
 pub returns : goal.returns
 returns c =
     let inv = c.loop-next.invariant in
+    let nobody = taken_none c.loop-next.waiting c.take.new.matches c.take.result c.take.ensures c.in_default.not-Some in
     record {
+      nobody = λ p l. ap (λ z. waits z p) (taken_same c.loop-next.waiting c.take.new.matches c.take.result c.take.ensures c.in_default.not-Some) ∙ nobody p (omega (arith, l, inv.0.twice, c.loop-next.auto.costs, c.offer.auto.costs, c.fill.ensures.len));
       few = λ i k l e. (steps_few c.loop-next.costs inv.1 i k l e, (cost_short c.loop-next.costs inv.1 inv.0.few i k l e).0);
       settled = λ edges laid inside.
           settled_when edges c.args.goal (length c.args.costs.now) c.loop-next.costs c.loop-next.waiting (omega (arith, c.loop-next.auto.costs, c.offer.auto.costs, c.fill.ensures.len)) inside inv.0.twice

@@ -1,4 +1,4 @@
-use Rattle.std.proofs.Common.{ℕ, ◌+◌, ◌*◌, length, sum, List}
+use Rattle.std.proofs.Common.{◌+◌, ◌*◌, length, sum, List}
 use Rattle.std.specs.List.{AllByRecursion}
 use Rattle.chains.specs.declared.Edge.{Edge}
 use Rattle.chains.specs.Edges.{Inside}

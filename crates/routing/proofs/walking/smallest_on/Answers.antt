@@ -1,8 +1,7 @@
 use Rattle.std.proofs.Common.{[], ◌∷◌, ◌++◌, get_or, take, subst, sym}
 use Rattle.std.proofs.lemmas.List.{take_more, take_all}
 use Rattle.routing.specs.declared.neighbours.Neighbour.{Neighbour}
-use Rattle.routing.specs.Ranks.{cost_of}
-use Rattle.routing.specs.Walks.{SmallestOn, better}
+use Rattle.routing.specs.Walks.{SmallestOn}
 use Rattle.routing.proofs.Following.{smallest_none, smallest_push}
 use Rattle.routing.proofs.walking.smallest_on.Goals as goal
 

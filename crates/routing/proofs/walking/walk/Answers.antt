@@ -1,8 +1,7 @@
-use Rattle.std.proofs.Common.{◌≡◌, ℕ, ◌+◌, ◌<◌, ◌≤◌, length, subst, sym, ◌∙◌, arith}
+use Rattle.std.proofs.Common.{◌<◌, ◌≤◌, length, subst, sym, ◌∙◌, arith}
 use Rattle.std.specs.List.{AllByRecursion}
 use Rattle.std.proofs.ByRecursion.{All-weaker}
 use Rattle.routing.specs.Ranks.{cost_of}
-use Rattle.routing.specs.Layouts.{neighbours_at, neighbours_of}
 use Rattle.routing.specs.Walks.{SmallestOn}
 use Rattle.routing.proofs.Emptying.{near_here}
 use Rattle.routing.proofs.Following.{walk_starts, walk_more, walk_ends, steps_less}
