@@ -27,7 +27,7 @@ pub all_in : (w : Wall) (e : Arm) → ((i : ℕ) → i < 6 → joint_in w e i �
 unfolding in_wall
 all_in w e each = below_every (joint_in w e) 6 each
 
--- the joint at place i is asked from step t on, when no step before t is in the wall; d is any joint
+-- the joint at place i is asked from step t on, where the motion is not in the wall at an earlier step; d is any joint
 module _ (way : Way) (w : Wall) (i t last : ℕ) (d : Joint) (low : i < length way.joints) (six : i < 6) (before : (s : ℕ) → s < t → in_wall w (way_pose way s) ≡ false) where
   abbrev in_its : ℕ → Bool
   in_its s = in_arc (arc_at w i) (joint_angle (get_or way.joints i d) s)
