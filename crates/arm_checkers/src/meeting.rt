@@ -26,11 +26,10 @@ pub fn first_in_walls(walls: &[Wall], from: &Arm, to: &Arm) -> Option<u16>
 {
     let way = Way::new(from, to);
     let mut first = None;
-    let mut last = way.steps;
     for wall in walls {
+        let last = first.unwrap_or(way.steps);
         if let Some(t) = way.first_in(wall, last) {
             first = Some(t);
-            last = t;
         }
     }
     first
