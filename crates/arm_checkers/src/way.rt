@@ -4,6 +4,7 @@ ghost use Rattle.std.specs.Prelude.{◌≡◌, ℕ, ◌≤◌};
 use crate::joint::Joint;
 use arm::Arm;
 use motion::steps;
+use std::array;
 use walls::Wall;
 
 #[derive(Clone, Copy)]
@@ -23,18 +24,9 @@ impl Way {
         ensures steps { result.steps ≡ steps_of from.now to.now }
         ensures poses { (t : ℕ) → way_pose result t ≡ pose_at from.now to.now (steps_of from.now to.now) t }
     {
-        let a = from.angles;
-        let b = to.angles;
         let steps = steps(from, to);
         Way {
-            joints: [
-                Joint::new(a[0], b[0], steps),
-                Joint::new(a[1], b[1], steps),
-                Joint::new(a[2], b[2], steps),
-                Joint::new(a[3], b[3], steps),
-                Joint::new(a[4], b[4], steps),
-                Joint::new(a[5], b[5], steps),
-            ],
+            joints: array::from_fn(|i| Joint::new(from.angles[i], to.angles[i], steps)),
             steps,
         }
     }
