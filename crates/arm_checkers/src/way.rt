@@ -1,5 +1,6 @@
 // A motion, joint by joint: made once for a pair, and held against each wall.
 ghost use Rattle.std.specs.Prelude.{◌≡◌, ℕ, ◌≤◌};
+ghost use Rattle.arm_checkers.specs.Joints.{Together};
 
 use crate::joint::Joint;
 use arm::Arm;
@@ -11,16 +12,16 @@ use walls::Wall;
 pub struct Way {
     joints: [Joint; 6],
     pub steps: u16,
+    ghost together: { Together joints steps },
 }
 
 impl Way {
     ghost use Rattle.turning.specs.Motions.{pose_at, steps_of};
     ghost use Rattle.walls.specs.Walls.{in_wall};
     ghost use Rattle.arm_checkers.specs.First.{first_from};
-    ghost use Rattle.arm_checkers.specs.Meetings.{way_pose, Together};
+    ghost use Rattle.arm_checkers.specs.Meetings.{way_pose};
 
     pub fn new(from: &Arm, to: &Arm) -> Way
-        ensures together { Together result }
         ensures steps { result.steps ≡ steps_of from.now to.now }
         ensures poses { (t : ℕ) → way_pose result t ≡ pose_at from.now to.now (steps_of from.now to.now) t }
     {
@@ -35,8 +36,7 @@ impl Way {
     // turn from when on they are in their arcs: one that comes later moves the step there, and all
     // are asked again; one that never comes ends it.
     pub fn first_in(&self, wall: &Wall, last: u16) -> Option<u16>
-        requires together { Together self.now }
-        requires within { last ≤ self.now.steps }
+        requires { last ≤ self.now.steps }
         ensures { result ≡ first_from (λ t. in_wall wall.now (way_pose self.now t)) 0 last }
     {
         let mut t = 0;

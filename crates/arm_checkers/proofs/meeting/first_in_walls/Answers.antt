@@ -11,8 +11,8 @@ use Rattle.arm_checkers.proofs.meeting.first_in_walls.Goals.{in-Some, in_default
 pub loop-wall-init : goal.loop-wall-init
 loop-wall-init c = no_walls c.new-way.result c.args.walls.now
 
-pub first_in-requires-clause-within : goal.first_in-requires-clause-within
-first_in-requires-clause-within c = in_time _ c.new-way.result.steps c.unwrap_or-last.result c.loop-wall.first c.loop-wall.invariant c.unwrap_or-last.ensures
+pub first_in-requires : goal.first_in-requires
+first_in-requires c = in_time _ c.new-way.result.steps c.unwrap_or-last.result c.loop-wall.first c.loop-wall.invariant c.unwrap_or-last.ensures
 
 pub loop-wall-preserved : goal.loop-wall-preserved
 loop-wall-preserved c = elim c.match-first_in.branch [
