@@ -50,8 +50,8 @@ fn hand_on(
     }
 }
 
-/// Finds for every place the least cost of a chain to the goal; `None` where there is no such chain. Always goes on from the
-/// place of least cost among those whose cost was lowered since they were last gone on from.
+/// Finds for every place the least cost of a chain to the goal; `None` where there is no such chain. A place waits from when
+/// its cost falls until its neighbours are offered a chain by way of it, and who costs least goes first.
 pub fn settle(
     neighbours: &Neighbours,
     goal: usize,
