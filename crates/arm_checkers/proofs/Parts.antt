@@ -1,5 +1,5 @@
 -- How much of a turn is done at a step, whichever way the joint goes. Assumes nothing.
-use Rattle.std.proofs.Common.{◌≡◌, ℕ, zero, suc, ◌+◌, ◌-◌, ◌*◌, ◌/◌, ◌<◌, ◌≤◌, Bool, true, false, cond, pos, neg_ℤ, nat_abs, sym, refl, ap, ◌∙◌, ⊎_elim, mod-lt, add-mul, suc-mul, mul-le-mul, mul-le-mul_left, mul-add, mul-zero, zero-mul, lt_of_mul-lt-mul_right, div-add-mod', arith}
+use Rattle.std.proofs.Common.{◌≡◌, ℕ, zero, suc, ◌+◌, ◌-◌, ◌*◌, ◌/◌, ◌<◌, ◌≤◌, Bool, true, false, cond, pos, neg_ℤ, nat_abs, sym, refl, ap, ◌∙◌, ⊎_elim, mod-lt, add-mul, suc-mul, mul-le-mul, mul-le-mul_left, mul-add, zero-mul, lt_of_mul-lt-mul_right, div-add-mod', arith}
 use native.Mathlib.Nat.{le-div_iff_mul-le, zero-div, div-lt_iff_lt-mul}
 use Rattle.std.specs.Int.{div_ceil}
 use Rattle.std.proofs.lemmas.Bool.{cases_lt}
@@ -128,19 +128,7 @@ part_slow upward size (suc n) t l =
     (λ near. let below = unreached upward size (suc n) (t + 1) (k + 1) (omega arith) (omega arith) (omega arith) in omega arith)
     (cases_lt (short upward (suc n) k) (size * t))
 
-pub part_begins : (upward : Bool) (size n : ℕ) → part upward size n 0 ≡ 0
-part_begins upward size n = part_none upward size n 0 (mul-zero size)
-
--- no more is done than there were steps
-pub part_bound : (upward : Bool) (size n t : ℕ) → size ≤ n → part upward size n t ≤ t
-part_bound upward size n zero l = omega (arith, part_begins upward size n)
-part_bound upward size n (suc t) l =
-    let before = part_bound upward size n t l in
-    let e : t + 1 ≡ suc t = omega arith in
-    let slow = rw e at (part_slow upward size n t l) in
-    omega arith
-
--- nor is the whole turn overdone
+-- the whole turn is never overdone
 pub part_whole : (upward : Bool) (size n t : ℕ) → t ≤ n → part upward size n t ≤ size
 part_whole upward size zero t l = omega (arith, part_still upward size t)
 part_whole upward size (suc n) t l =

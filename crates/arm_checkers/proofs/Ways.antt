@@ -1,5 +1,5 @@
 -- A pose of a motion in a wall, joint by joint, and a motion in one of many walls. Assumes nothing.
-use Rattle.std.proofs.Common.{◌≡◌, ℕ, zero, suc, ◌<◌, Bool, true, false, [], ◌∷◌, length, get_or, None, Some, sym, refl, ap, ◌∙◌, ⊎_elim, arith}
+use Rattle.std.proofs.Common.{◌≡◌, ℕ, ◌<◌, Bool, true, false, length, get_or, None, Some, sym, refl, ap, ◌∙◌, ⊎_elim}
 use Rattle.std.proofs.lemmas.Bool.{cases_lt, both_ways}
 use Rattle.std.proofs.lemmas.List.{get_or-map}
 use Rattle.arm.specs.declared.Arm.{Arm}
@@ -27,7 +27,7 @@ pub all_in : (w : Wall) (e : Arm) → ((i : ℕ) → i < 6 → joint_in w e i �
 unfolding in_wall
 all_in w e each = below_every (joint_in w e) 6 each
 
--- the joint at place i is asked from step t on, when no step before t is in the wall; d is any joint
+-- the joint at place i is asked from step t on, where the motion is not in the wall at an earlier step; d is any joint
 module _ (way : Way) (w : Wall) (i t last : ℕ) (d : Joint) (low : i < length way.joints) (six : i < 6) (before : (s : ℕ) → s < t → in_wall w (way_pose way s) ≡ false) where
   abbrev in_its : ℕ → Bool
   in_its s = in_arc (arc_at w i) (joint_angle (get_or way.joints i d) s)
@@ -51,13 +51,3 @@ module _ (way : Way) (w : Wall) (i t last : ℕ) (d : Joint) (low : i < length w
 
     pub comes : joint_in w (way_pose way next) i ≡ true
     comes = alone next ∙ asked.here
-
--- six joints with as many steps each
-pub six_together : (a b c d e f : Joint) (n : ℕ) → a.steps ≡ n → b.steps ≡ n → c.steps ≡ n → d.steps ≡ n → e.steps ≡ n → f.steps ≡ n → (i : ℕ) (x : Joint) → i < 6 → (get_or (a ∷ b ∷ c ∷ d ∷ e ∷ f ∷ []) i x).steps ≡ n
-six_together a b c d e f n ha hb hc hd he hf zero x h = ha
-six_together a b c d e f n ha hb hc hd he hf (suc zero) x h = hb
-six_together a b c d e f n ha hb hc hd he hf (suc (suc zero)) x h = hc
-six_together a b c d e f n ha hb hc hd he hf (suc (suc (suc zero))) x h = hd
-six_together a b c d e f n ha hb hc hd he hf (suc (suc (suc (suc zero)))) x h = he
-six_together a b c d e f n ha hb hc hd he hf (suc (suc (suc (suc (suc zero))))) x h = hf
-six_together a b c d e f n ha hb hc hd he hf (suc (suc (suc (suc (suc (suc i)))))) x h = absurd (omega arith)

@@ -1,5 +1,5 @@
 -- One joint of a motion: where it is at each step, and how much of its turn is done.
-use Rattle.std.specs.Prelude.{ℕ, ◌-◌, ◌*◌, Bool, cond, ℤ, pos, ◌+ℤ◌, neg_ℤ, unsigned_abs}
+use Rattle.std.specs.Prelude.{◌≡◌, ℕ, ◌-◌, ◌*◌, ◌<◌, Bool, cond, List, slice_index_or, ℤ, pos, ◌+ℤ◌, neg_ℤ, unsigned_abs}
 use Rattle.turning.specs.Circle.{wrap}
 use Rattle.turning.specs.Motions.{turned}
 use Rattle.arm_checkers.specs.declared.joint.Joint.{Joint}
@@ -31,3 +31,7 @@ short upward n k = cond upward (k * n - 1) ((k - 1) * n)
 -- how far it is to an arc's start going up, or to its end going down
 abbrev pub way_left : Bool → ℕ → ℕ → ℕ
 way_left upward extent ahead = cond upward (4096 - ahead) (ahead - extent)
+
+-- six joints have as many steps each
+abbrev pub Together : List Joint → ℕ → Type 0
+Together six steps = (i : ℕ) (d : Joint) → i < 6 → (slice_index_or six i d).steps ≡ steps

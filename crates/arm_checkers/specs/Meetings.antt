@@ -1,10 +1,9 @@
 -- When a motion first is in a wall.
-use Rattle.std.specs.Prelude.{◌≡◌, ℕ, ◌<◌, not, List, map, Option, slice_index_or}
+use Rattle.std.specs.Prelude.{ℕ, not, List, map, Option}
 use Rattle.arm.specs.declared.Arm.{Arm}
 use Rattle.turning.specs.Motions.{pose_at, steps_of}
 use Rattle.walls.specs.declared.wall.Wall.{Wall}
 use Rattle.walls.specs.Walls.{in_wall}
-use Rattle.arm_checkers.specs.declared.joint.Joint.{Joint}
 use Rattle.arm_checkers.specs.declared.way.Way.{Way}
 use Rattle.arm_checkers.specs.First.{first_from}
 use Rattle.arm_checkers.specs.Joints.{joint_angle}
@@ -13,10 +12,6 @@ use Rattle.arm_checkers.specs.Passes.{outside}
 -- the pose of a motion at a step, its angles joint by joint
 unfoldable pub way_pose : Way → ℕ → Arm
 way_pose way t = record { angles = map (λ j. joint_angle j t) way.joints }
-
--- its joints have as many steps as it has
-abbrev pub Together : Way → Type 0
-Together way = (i : ℕ) (d : Joint) → i < 6 → (slice_index_or way.joints i d).steps ≡ way.steps
 
 -- the first step at which the motion from e to f is in a wall
 unfoldable pub first_met : Wall → Arm → Arm → Option ℕ

@@ -1,5 +1,5 @@
-// One joint of a motion. It goes one way only and by at most one from each step to the next, so it
-// cannot leap over an arc.
+// One joint of a motion. It goes one way only and by at most one from each step to the next, so on
+// its way past an arc it stands in it at some step.
 ghost use Rattle.std.specs.Prelude.{◌≡◌, ℕ, ◌+◌, ◌<◌, ◌≤◌, nat_le};
 
 use arm::turn;
@@ -50,6 +50,7 @@ impl Joint {
         ensures bound { result ≤ step }
     {
         let product = u32::from(self.size) * u32::from(step);
+        // Where there are no steps the size is 0, so this keeps the divisions from a zero too.
         if product == 0 {
             return 0;
         }

@@ -1,5 +1,5 @@
-// Two checkers of arms over walls: Step looks at every pose of a motion, Box at the arcs that its
-// joints sweep.
+// Two checkers of arms over walls: Step asks each wall when a motion first is in it, Box looks at the
+// arcs that its joints sweep.
 #![tactic(auto)]
 
 mod joint;

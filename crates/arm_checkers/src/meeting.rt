@@ -18,18 +18,18 @@ pub fn first_in_wall(wall: &Wall, from: &Arm, to: &Arm) -> Option<u16>
 
 /// The first step at which the motion between two poses is in any of the walls; none if no pose of it
 /// is, and that is when Step passes the pair.
-// A wall is given up where it cannot come before the first one met so far.
+// A wall counts up to the first step met so far, that step included, and is given up where the motion
+// cannot come into it by then.
 pub fn first_in_walls(walls: &[Wall], from: &Arm, to: &Arm) -> Option<u16>
     ensures first { result ≡ first_met_of walls.now from.now to.now }
     ensures passes { is_none result ≡ step_passes walls.now from.now to.now }
 {
     let way = Way::new(from, to);
     let mut first = None;
-    let mut last = way.steps;
     for wall in walls {
+        let last = first.unwrap_or(way.steps);
         if let Some(t) = way.first_in(wall, last) {
             first = Some(t);
-            last = t;
         }
     }
     first

@@ -18,8 +18,8 @@ impl<'w> Checker<Arm> for StepChecker<'w> {
 
     ghost symmetric = { λ c. step_symmetric c.walls.now };
 
-    // A loop over the lent walls, whose invariant is that no wall seen so far is met. It ends at
-    // the first one that is.
+    // A loop over the lent walls, whose invariant is that no wall seen so far is met. It ends at the
+    // first one that is, where first_in_walls goes on to the others, since they may be met sooner.
     fn check(&self, a: &Arm, b: &Arm) -> bool {
         let way = Way::new(a, b);
         for wall in self.walls {

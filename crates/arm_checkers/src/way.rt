@@ -1,40 +1,33 @@
 // A motion, joint by joint: made once for a pair, and held against each wall.
 ghost use Rattle.std.specs.Prelude.{◌≡◌, ℕ, ◌≤◌};
+ghost use Rattle.arm_checkers.specs.Joints.{Together};
 
 use crate::joint::Joint;
 use arm::Arm;
 use motion::steps;
+use std::array;
 use walls::Wall;
 
 #[derive(Clone, Copy)]
 pub struct Way {
     joints: [Joint; 6],
     pub steps: u16,
+    ghost together: { Together joints steps },
 }
 
 impl Way {
     ghost use Rattle.turning.specs.Motions.{pose_at, steps_of};
     ghost use Rattle.walls.specs.Walls.{in_wall};
     ghost use Rattle.arm_checkers.specs.First.{first_from};
-    ghost use Rattle.arm_checkers.specs.Meetings.{way_pose, Together};
+    ghost use Rattle.arm_checkers.specs.Meetings.{way_pose};
 
     pub fn new(from: &Arm, to: &Arm) -> Way
-        ensures together { Together result }
         ensures steps { result.steps ≡ steps_of from.now to.now }
         ensures poses { (t : ℕ) → way_pose result t ≡ pose_at from.now to.now (steps_of from.now to.now) t }
     {
-        let a = from.angles;
-        let b = to.angles;
         let steps = steps(from, to);
         Way {
-            joints: [
-                Joint::new(a[0], b[0], steps),
-                Joint::new(a[1], b[1], steps),
-                Joint::new(a[2], b[2], steps),
-                Joint::new(a[3], b[3], steps),
-                Joint::new(a[4], b[4], steps),
-                Joint::new(a[5], b[5], steps),
-            ],
+            joints: array::from_fn(|i| Joint::new(from.angles[i], to.angles[i], steps)),
             steps,
         }
     }
@@ -43,8 +36,7 @@ impl Way {
     // turn from when on they are in their arcs: one that comes later moves the step there, and all
     // are asked again; one that never comes ends it.
     pub fn first_in(&self, wall: &Wall, last: u16) -> Option<u16>
-        requires together { Together self.now }
-        requires within { last ≤ self.now.steps }
+        requires { last ≤ self.now.steps }
         ensures { result ≡ first_from (λ t. in_wall wall.now (way_pose self.now t)) 0 last }
     {
         let mut t = 0;

@@ -103,16 +103,14 @@ mod tests {
         let mut never = 0u32;
         let mut at_once = 0u32;
         let mut later = 0u32;
+        let mut later_when_long = 0u32;
         for case in 0..2400 {
+            let long = case % 12 == 0;
             let e = cases.pose();
-            let f = if case % 12 == 0 {
-                cases.far(&e)
-            } else {
-                cases.near(&e)
-            };
+            let f = if long { cases.far(&e) } else { cases.near(&e) };
             let n = steps(&e, &f);
             let t = cases.below(n);
-            let narrow = if case % 3 == 0 {
+            let narrow = if case % 5 == 0 {
                 cases.wall()
             } else {
                 cases.wall_round(&pose(&e, &f, t, n))
@@ -120,10 +118,12 @@ mod tests {
             match finds(&rt, &[cases.wall(), narrow, cases.wall()], &e, &f) {
                 None => never = never.wrapping_add(1),
                 Some(0) => at_once = at_once.wrapping_add(1),
+                Some(_) if long => later_when_long = later_when_long.wrapping_add(1),
                 Some(_) => later = later.wrapping_add(1),
             }
         }
-        assert!(rt; never > 300 && at_once > 100 && later > 800);
+        assert!(rt; never > 200 && at_once > 800);
+        assert!(rt; later > 800 && later_when_long > 90);
     }
 
     #[test]

@@ -3,7 +3,7 @@ use Rattle.walls.specs.Walls.{joint_in, in_wall}
 use Rattle.arm_checkers.specs.Meetings.{way_pose}
 use Rattle.arm_checkers.proofs.way.Way.first_in.Given as goal
 
--- no step before this one is in the wall, and the joints asked since it was reached are in their arcs at it
+-- the motion is not in the wall at an earlier step, and the joints asked since this one was reached are in their arcs at it
 abbrev pub invariant-loop-joint : goal.invariant-loop-joint
 invariant-loop-joint l = record {
   in_time : l.t ≤ l.last;
