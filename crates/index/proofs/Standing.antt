@@ -1,5 +1,5 @@
 -- Lists of samples by rising number. Assumes nothing.
-use Rattle.std.proofs.Common.{◌≡◌, ℕ, ◌<◌, ◌≤◌, false, cond, eqb, List, [], ◌∷◌, ◌++◌, refl, ap, ◌∙◌, arith, ne_eqb, suc, length}
+use Rattle.std.proofs.Common.{◌≡◌, ℕ, zero, ◌<◌, ◌≤◌, false, cond, eqb, List, [], ◌∷◌, ◌++◌, refl, ap, ◌∙◌, arith, ne_eqb, suc, length, take}
 use Rattle.std.proofs.lemmas.Bool.{cond_both}
 use Rattle.hits.specs.Samples.{Sample, Rising}
 use Rattle.index.specs.Meaning.{without}
@@ -14,6 +14,11 @@ module _ {E : Type 0} where
   pub rising_push : (low high up : ℕ) (xs : List (Sample E)) (s : Sample E) → low ≤ high → high < s.number → s.number ≤ up → Rising low high xs → Rising low up (xs ++ (s ∷ []))
   rising_push low high up [] s a b c r = (omega arith, c, tt)
   rising_push low high up (x ∷ xs) s a b c r = (r.0, omega (arith, r.1), rising_push x.number high up xs s r.1 b c r.2)
+
+  pub rising_take : (low high n : ℕ) (xs : List (Sample E)) → Rising low high xs → Rising low high (take n xs)
+  rising_take low high zero xs r = tt
+  rising_take low high (suc n) [] r = tt
+  rising_take low high (suc n) (x ∷ xs) r = (r.0, r.1, rising_take x.number high n xs r.2)
 
   pub rising_without : (n low high : ℕ) (xs : List (Sample E)) → Rising low high xs → Rising low high (without n xs)
   rising_without n low high [] r = tt

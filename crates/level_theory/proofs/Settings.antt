@@ -45,3 +45,10 @@ header_at degree bucket k scan tree false f o = tree (tree_holds degree bucket k
 -- settings that hold are small
 pub settings_small : (degree bucket k : ℕ) → header_outcome degree bucket k ≡ gives tt → (degree ≤ 1048576) × (bucket ≤ 1048576) × (k ≤ 1048576)
 settings_small degree bucket k e = header_at degree bucket k (λ d b n. (omega arith, omega arith, omega arith)) (λ t. (omega arith, omega arith, omega arith)) (eqb degree 0 && eqb bucket 0) refl e
+
+pub k_holds : (degree bucket k : ℕ) → header_outcome degree bucket k ≡ gives tt → (1 ≤ k) × (k ≤ 8)
+k_holds degree bucket k e = header_at degree bucket k (λ d b n. n) (λ t. (t.k_least, t.k_most)) (eqb degree 0 && eqb bucket 0) refl e
+
+-- a degree other than 0 asks for a tree
+pub tree_chosen : (degree bucket k : ℕ) → (degree ≡ 0 → ⊥) → header_outcome degree bucket k ≡ gives tt → settings_outcome degree bucket ≡ gives (degree, bucket)
+tree_chosen degree bucket k some e = header_at degree bucket k (λ d b n. absurd (some d)) (λ t. t.chosen) (eqb degree 0 && eqb bucket 0) refl e

@@ -1,14 +1,15 @@
 -- Row by row, the hits within a radius. Assumes nothing.
-use Rattle.std.proofs.Common.{◌≡◌, ℕ, ◌+◌, ◌<◌, ◌≤◌, min, List, [], ◌∷◌, ◌++◌, length, get_or, take, sym, refl, ap, ◌∙◌, arith}
+use Rattle.std.proofs.Common.{◌≡◌, ℕ, ◌+◌, ◌<◌, ◌≤◌, min, List, [], ◌∷◌, ◌++◌, length, get_or, take, sym, refl, ap, ◌∙◌, subst, arith}
 use Rattle.std.proofs.Math.Seq.{take-nil}
-use Rattle.std.proofs.lemmas.List.{take_more, take_all, map_push}
+use Rattle.std.proofs.lemmas.List.{take_more, take_all, map_push, take-map}
 use Rattle.hits.specs.declared.Hit.{Hit}
-use Rattle.hits.specs.Order.{Sorted, put, inside}
-use Rattle.hits.specs.Samples.{hit_of, hits}
-use Rattle.hits.proofs.Ranking.{hits_push, hits_sorted}
-use Rattle.hits.proofs.Keeping.{inside_put, inside_put_far, inside_sorted, keep_one, keep_count}
+use Rattle.hits.specs.Order.{InOrder, Sorted, put, inside}
+use Rattle.hits.specs.Samples.{Rising, hit_of, hits}
+use Rattle.hits.proofs.Ranking.{hits_push, hits_ranked, hits_sorted}
+use Rattle.hits.proofs.Keeping.{inside_put, inside_put_far, inside_in_order, inside_sorted, keep_one, keep_count}
 use Rattle.hits.proofs.Putting.{length_put}
 use Rattle.hits.specs.Lists.{over}
+use Rattle.index.proofs.Standing.{rising_take}
 use Rattle.scan.specs.declared.rows.Row.{Row}
 use Rattle.scan.specs.Rows.{sample_of, samples}
 
@@ -23,6 +24,13 @@ module _ {E : Type 0} (dist : E → E → ℕ) (q : E) (r : ℕ) where
 
     pub first_sorted : (i : ℕ) → Sorted (first_hits i rows)
     first_sorted i = inside_sorted r (hits dist q (samples (take i rows))) (order i)
+
+    -- by number rising, each of these hits precedes all behind it
+    pub first_in_order : Rising 0 65535 (samples rows) → (i : ℕ) → InOrder (first_hits i rows)
+    first_in_order rise i = inside_in_order r (hits dist q (samples (take i rows))) (in_order i)
+      where
+        in_order : (i : ℕ) → InOrder (hits dist q (samples (take i rows)))
+        in_order i = (hits_ranked dist q 0 65535 (samples (take i rows)) (subst (Rising 0 65535) (take-map sample_of i rows) (rising_take 0 65535 i (samples rows) rise))).ordered
 
     module _ (i : ℕ) (row : Row E) (l : i < length rows) (is : row ≡ get_or rows i row) where
       next : hits dist q (samples (take (i + 1) rows)) ≡ put (hit_of dist q (sample_of row)) (hits dist q (samples (take i rows)))

@@ -1,5 +1,5 @@
 -- Remainders round the circle, and the turn between two angles. Assumes nothing.
-use Rattle.std.proofs.Common.{◌≡◌, ℕ, zero, suc, ◌+◌, ◌-◌, ◌%◌, ◌≤◌, true, false, cond, ◌⊎◌, ℤ, pos, negsuc, ◌+ℤ◌, ◌-ℤ◌, neg_ℤ, sym, refl, ap, ◌∙◌, inl, inr, ⊎_elim, arith}
+use Rattle.std.proofs.Common.{◌≡◌, ℕ, zero, suc, ◌+◌, ◌-◌, ◌%◌, ◌<◌, ◌≤◌, true, false, cond, ◌⊎◌, ℤ, pos, negsuc, ◌+ℤ◌, ◌-ℤ◌, neg_ℤ, sym, refl, ap, ◌∙◌, inl, inr, ⊎_elim, arith}
 use lib.Signed.{lt_z}
 use Rattle.std.proofs.lemmas.Int.{ints}
 use Rattle.std.proofs.lemmas.Bool.{cases_lt}
@@ -9,6 +9,12 @@ use Rattle.turning.specs.Circle.{wrap, ahead}
 pub wrap_pos : (a : ℕ) → wrap (pos a) ≡ a % 4096
 unfolding wrap
 wrap_pos a = refl
+
+-- what is left of a division by a full turn is less than a full turn, so angles of poses are remainders
+pub wrap_under : (z : ℤ) → wrap z < 4096
+unfolding wrap
+wrap_under (pos a) = omega arith
+wrap_under (negsuc a) = omega arith
 
 -- a full turn changes nothing
 pub wrap_shift : (z : ℤ) → wrap (z +ℤ pos 4096) ≡ wrap z
