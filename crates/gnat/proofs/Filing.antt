@@ -1,17 +1,15 @@
 -- A GNAT in which a new sample is filed. Assumes nothing.
 use Rattle.std.proofs.Common.{◌≡◌, ℕ, ◌+◌, ◌<◌, min, List, ◌∷◌, length, take, sym, refl, ap, ◌∙◌, subst, arith}
-use Rattle.std.proofs.lemmas.List.{length-take}
 use Rattle.hits.specs.Samples.{Sample}
 use Rattle.index.specs.Meaning.{added}
 use Rattle.gnat_theory.specs.Splitting.{grown}
-use Rattle.gnat_theory.proofs.Shuffling.{length_shuffle}
 use Rattle.gnat_rows.specs.declared.Node.{Node}
 use Rattle.gnat_rows.specs.declared.Row.{Row}
 use Rattle.gnat_rows.specs.Trees.{samples_at, tree_of}
 use Rattle.gnat_order.specs.Order.{places}
 use Rattle.gnat_filing.specs.Filed.{Ready, LeavesTree, FilesIn}
 use Rattle.gnat.specs.States.{State, capacity_of, meaning_of, tree_in}
-use Rattle.gnat.proofs.Laid.{LaidOut, shallow}
+use Rattle.gnat.proofs.Laid.{LaidOut}
 use Rattle.gnat.proofs.Adding.{free_row, free_apart, free_within, prepared, prepared_length, prepared_shows, prepared_row, add_means, add_tree, add_sound}
 
 module _ {E : Type 0} (dist : E → E → ℕ) (g : State E) (o : LaidOut dist g) (roomy : g.standing + g.marked < capacity_of g) (e : E) where
@@ -27,22 +25,21 @@ module _ {E : Type 0} (dist : E → E → ℕ) (g : State E) (o : LaidOut dist g
   abbrev row : ℕ
   row = free_row dist g o roomy
 
-  with_it_ready : Ready g.settings.degree g.settings.bucket 1025 with_it g.root row o.tree o.lies
+  with_it_ready : Ready g.settings.degree g.settings.bucket with_it g.root row o.tree o.lies
   with_it_ready = record {
     shows = prepared_shows dist g o roomy number e;
     apart = free_apart dist g o roomy;
     within = omega (arith, free_within dist g o roomy, prepared_length dist g o roomy number e);
-    deep = shallow dist g.rows g.root o.tree o.lies g.settings.degree g.settings.bucket _ g.settings.two o.files o.shows (omega (arith, length_shuffle _ _ o.lists, length-take (g.standing + g.marked) (places g.rows), o.in_use));
     branching = o.files.branching;
     leaves = o.files.leaves;
   }
 
   -- the rows and the row as the program has them
   module _ (new : List (Row E)) (at : ℕ) (is_new : new ≡ with_it) (is_row : at ≡ row) where
-    pub may_file_new : Ready g.settings.degree g.settings.bucket 1025 new g.root at o.tree o.lies
+    pub may_file_new : Ready g.settings.degree g.settings.bucket new g.root at o.tree o.lies
     may_file_new =
-        subst (λ i. Ready g.settings.degree g.settings.bucket 1025 new g.root i o.tree o.lies) (sym is_row)
-        (subst (λ z. Ready g.settings.degree g.settings.bucket 1025 z g.root row o.tree o.lies) (sym is_new) with_it_ready)
+        subst (λ i. Ready g.settings.degree g.settings.bucket new g.root i o.tree o.lies) (sym is_row)
+        (subst (λ z. Ready g.settings.degree g.settings.bucket z g.root row o.tree o.lies) (sym is_new) with_it_ready)
 
     module _ (later : List (Row E)) (root : Node) (files : FilesIn dist g.settings.degree g.settings.bucket new later g.root root at) (as_long : length later ≡ length new) where
       left : LeavesTree with_it later root (grown dist g.settings.degree g.settings.bucket sample o.tree) (row ∷ o.lies)

@@ -82,7 +82,7 @@ module _ {E : Type 0} (dist : E → E → ℕ) where
       }
 
     -- the next row may be filed
-    module _ (two : 2 ≤ degree) (room : degree ≤ bucket) (few : length order ≤ 1024) (within : Within order (length rows)) (apart : Distinct order) (j : ℕ) (inside : j < length order) (new : List (Row E)) (root : Node) (f : Refiled dist degree bucket rows order j new root) where
+    module _ (two : 2 ≤ degree) (room : degree ≤ bucket) (within : Within order (length rows)) (apart : Distinct order) (j : ℕ) (inside : j < length order) (new : List (Row E)) (root : Node) (f : Refiled dist degree bucket rows order j new root) where
       abbrev filed_tree : Tree E
       filed_tree = rebuilt dist degree bucket (samples_at rows (take j order))
 
@@ -95,12 +95,11 @@ module _ {E : Type 0} (dist : E → E → ℕ) where
           let turned : Shuffle ℕ (take j order ++ (get_or order j 0 ∷ [])) (get_or order j 0 ∷ take j order) = subst (λ z. Shuffle ℕ (take j order ++ (get_or order j 0 ∷ [])) (get_or order j 0 ∷ z)) (append-nil (take j order)) (shuffle_front (take j order) (get_or order j 0) []) in
           distinct_shuffle _ _ (in_turn _ _ _ turned (after (get_or order j 0) _ _ (shuffle_back _ _ f.same_rows))) (subst Distinct (take-suc order j 0 inside) front)
 
-      pub ready_next : Ready degree bucket 1025 new root (get_or order j 0) filed_tree f.lies
+      pub ready_next : Ready degree bucket new root (get_or order j 0) filed_tree f.lies
       ready_next = record {
         shows = f.shows;
         apart = next_apart;
         within = omega (arith, All-get_or (λ k. k < length rows) order j 0 inside within, f.as_long);
-        deep = shallow dist new root filed_tree f.lies degree bucket _ two so_far f.shows (omega (arith, length_shuffle _ _ f.same_rows, length-take j order));
         branching = so_far.branching;
         leaves = so_far.leaves;
       }
@@ -110,7 +109,7 @@ module _ {E : Type 0} (dist : E → E → ℕ) where
     refiled_none = record { lies = []; shows = (record { count = 0; rows = replicate 32 0 }, refl, refl, omega arith, refl, tt); same_rows = nothing; only = only_none rows order; as_long = refl }
 
 -- the row that is listed next is filed
-module _ {E : Type 0} (dist : E → E → ℕ) (degree bucket : ℕ) (rows : List (Row E)) (standing : ℕ) (two : 2 ≤ degree) (room : degree ≤ bucket) (fits : standing ≤ length rows) (few : standing ≤ 1024) (within : Within (take standing (places rows)) (length rows)) (apart : Distinct (take standing (places rows)))
+module _ {E : Type 0} (dist : E → E → ℕ) (degree bucket : ℕ) (rows : List (Row E)) (standing : ℕ) (two : 2 ≤ degree) (room : degree ≤ bucket) (fits : standing ≤ length rows) (within : Within (take standing (places rows)) (length rows)) (apart : Distinct (take standing (places rows)))
     (j : ℕ) (inside : j < standing) (new : List (Row E)) (root : Node) (f : Refiled dist degree bucket rows (take standing (places rows)) j new root) where
   abbrev order : List ℕ
   order = take standing (places rows)
@@ -122,11 +121,11 @@ module _ {E : Type 0} (dist : E → E → ℕ) (degree bucket : ℕ) (rows : Lis
   next_place at row is_row is-place =
       is-place ∙ (sym (place_of new j row is_row) ∙ (ap (λ ps. get_or ps j 0) (places_only order rows new f.only f.as_long) ∙ sym (get_or-take standing (places rows) j 0 inside)))
 
-  next_ready : Ready degree bucket 1025 new root (get_or order j 0) (rebuilt dist degree bucket (samples_at rows (take j order))) f.lies
-  next_ready = ready_next dist degree bucket rows order two room (omega (arith, all_listed)) within apart j (omega (arith, all_listed)) new root f
+  next_ready : Ready degree bucket new root (get_or order j 0) (rebuilt dist degree bucket (samples_at rows (take j order))) f.lies
+  next_ready = ready_next dist degree bucket rows order two room within apart j (omega (arith, all_listed)) new root f
 
-  pub may_file : (at : ℕ) → at ≡ get_or order j 0 → Ready degree bucket 1025 new root at (rebuilt dist degree bucket (samples_at rows (take j order))) f.lies
-  may_file at same = subst (λ i. Ready degree bucket 1025 new root i (rebuilt dist degree bucket (samples_at rows (take j order))) f.lies) (sym same) next_ready
+  pub may_file : (at : ℕ) → at ≡ get_or order j 0 → Ready degree bucket new root at (rebuilt dist degree bucket (samples_at rows (take j order))) f.lies
+  may_file at same = subst (λ i. Ready degree bucket new root i (rebuilt dist degree bucket (samples_at rows (take j order))) f.lies) (sym same) next_ready
 
   pub has_filed : (at : ℕ) → at ≡ get_or order j 0 → (later : List (Row E)) (after_it : Node) → FilesIn dist degree bucket new later root after_it at → length later ≡ length new → Refiled dist degree bucket rows order (suc j) later after_it
   has_filed at same later after_it files as_long =
@@ -203,7 +202,6 @@ module _ {E : Type 0} (dist : E → E → ℕ) (g : State E) (o : LaidOut dist g
 -- a sound GNAT's standing samples may be filed anew
 pub record MayRefile {E : Type 0} (g : State E) : Type 0 where
   pub fits : g.standing ≤ length g.rows
-  pub few : g.standing ≤ 1024
   pub within : Within (listed g) (length g.rows)
   pub apart : Distinct (listed g)
 
@@ -213,7 +211,6 @@ may_refile dist g o =
     let cut : take g.standing ps ≡ listed g = take-take g.standing (capacity_of g) (places g.rows) (omega (arith, o.in_use)) in
     record {
       fits = in_rows g o.in_use o.within;
-      few = omega (arith, o.in_use);
       within = listed_within g o.in_use o.within;
       apart = subst Distinct cut (distinct_left (take g.standing ps) (drop g.standing ps) (subst Distinct (sym (take-append-drop g.standing ps)) o.apart));
     }

@@ -2,12 +2,12 @@
 use Rattle.std.proofs.Common.{◌≡◌, ℕ, zero, suc, ◌+◌, ◌-◌, ◌<◌, ◌≤◌, min, Bool, true, false, List, [], ◌∷◌, ◌++◌, length, get_or, take, drop, Some, None, Option, sym, refl, ap, ◌∙◌, subst, inl, inr, arith}
 use Rattle.std.specs.List.{slice_get}
 use Rattle.std.proofs.ByRecursion.{All-get_or}
-use Rattle.std.proofs.lemmas.List.{length-map, length-take, length-take-le, get_or-take}
+use Rattle.std.proofs.lemmas.List.{length-map, length-take-le, get_or-take}
 use Rattle.hits.specs.Samples.{Sample, Among}
 use Rattle.gnat_theory.specs.Tree.{standing}
 use Rattle.gnat_theory.specs.Dropping.{shrunk}
 use Rattle.gnat_theory.specs.Shuffles.{Shuffle}
-use Rattle.gnat_theory.proofs.Shuffling.{among_shuffle, shuffle_back, length_shuffle}
+use Rattle.gnat_theory.proofs.Shuffling.{among_shuffle, shuffle_back}
 use Rattle.gnat_rows.specs.declared.Node.{Node}
 use Rattle.gnat_rows.specs.declared.Row.{Row}
 use Rattle.gnat_rows.specs.Shows.{sample_in, Shows}
@@ -17,7 +17,7 @@ use Rattle.gnat_order.specs.Order.{places, placed, at_place}
 use Rattle.gnat_order.proofs.Framing.{places_only}
 use Rattle.gnat_filing.specs.Dropping.{Droppable, Drops}
 use Rattle.gnat.specs.States.{State, capacity_of, listed, standing_in, meaning_of}
-use Rattle.gnat.proofs.Laid.{LaidOut, shallow}
+use Rattle.gnat.proofs.Laid.{LaidOut}
 use Rattle.gnat.specs.Changes.{TakenOut}
 use Rattle.gnat.specs.Unlisting.{unlisted, marked_then}
 use Rattle.gnat.specs.Lawful.{in_rows, listed_within}
@@ -86,7 +86,6 @@ module _ {E : Type 0} (dist : E → E → ℕ) (g : State E) (o : LaidOut dist g
       there = is_row;
       lies = in_tree;
       stands = it_stands;
-      deep = shallow dist old g.root o.tree o.lies g.settings.degree g.settings.bucket _ g.settings.two o.files o.shows (omega (arith, length_shuffle _ _ o.lists, length-take (g.standing + g.marked) (places old), o.in_use));
       some = omega (arith, g.settings.two);
       branching = o.files.branching;
       placed = o.files.placed;

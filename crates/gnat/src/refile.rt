@@ -13,7 +13,6 @@ use metric::Metric;
 // and returns the root.
 pub(crate) fn refile<E: Metric>(rows: &mut [Row<E>], standing: usize, settings: Settings) -> Node
     requires fits { standing ≤ length rows.old }
-    requires few { standing ≤ 1024 }
     requires within { Within (take standing (places rows.old)) (length rows.old) }
     requires apart { Distinct (take standing (places rows.old)) }
     ensures { Refiled E.dist settings.degree settings.bucket rows.old (take standing (places rows.old)) standing rows.new result }

@@ -1,9 +1,10 @@
 -- One branch further down: what is left to do below it is what was left to do. Assumes nothing.
-use Rattle.std.proofs.Common.{◌≡◌, ℕ, ◌<◌, List, [], ◌∷◌, ◌++◌, length, get_or, Some, None, Option, refl, ap, ◌∙◌, subst, arith}
+use Rattle.std.proofs.Common.{◌≡◌, ℕ, suc, ◌<◌, ◌≤◌, List, [], ◌∷◌, ◌++◌, length, get_or, Some, None, Option, refl, ap, ◌∙◌, subst, arith}
 use Rattle.std.specs.List.{slice_get}
 use Rattle.hits.proofs.Among.{all_right}
 use Rattle.gnat_theory.specs.Tree.{Tree}
 use Rattle.gnat_theory.specs.Splitting.{kept_or_split, grown}
+use Rattle.gnat_theory.specs.Shapes.{Branching}
 use Rattle.gnat_theory.specs.Shuffles.{Shuffle}
 use Rattle.gnat_rows.specs.declared.Branch.{Branch as BranchRecord}
 use Rattle.gnat_rows.specs.declared.Node.{Node}
@@ -11,33 +12,31 @@ use Rattle.gnat_rows.specs.declared.Node.TheVariants as node
 use Rattle.gnat_rows.specs.declared.Row.{Row}
 use Rattle.gnat_rows.specs.Rows.{with_node}
 use Rattle.gnat_rows.specs.Shows.{sample_in, Shows}
-use Rattle.gnat_rows.specs.Lying.{Absent}
+use Rattle.gnat_rows.specs.Lying.{Absent, Distinct}
 use Rattle.gnat_rows.specs.Trees.{height, tree_of}
-use Rattle.gnat_rows.proofs.Trees.{shown_tree}
+use Rattle.gnat_rows.proofs.Trees.{shown_tree, height_within}
 use Rattle.gnat_rows.proofs.Changes.{length_changed}
 use Rattle.gnat_rows.proofs.Showing.{Child, frame_parts}
-use Rattle.gnat_filing.specs.Filed.{too_deep}
 use Rattle.gnat_filing.specs.Under.{ReadyUnder, Reached, Reaches, FilesUnder}
 use Rattle.gnat_filing.specs.Widening.{Approaches}
 use Rattle.gnat_filing.proofs.Level.{IsBranch, child_lower, nth_child, pivot_apart, child_ready, filed_below}
 use Rattle.gnat_filing.proofs.Under.{over, put_others, put_same, put_before}
 
-module _ {E : Type 0} (degree bucket : ℕ) (rows : List (Row E)) (n : Node) (at : ℕ) (t : Tree E) (fs : List ℕ) (b : BranchRecord) (i : IsBranch degree bucket too_deep rows n at t fs b) where
+module _ {E : Type 0} (degree bucket : ℕ) (rows : List (Row E)) (n : Node) (at : ℕ) (t : Tree E) (fs : List ℕ) (b : BranchRecord) (i : IsBranch degree bucket rows n at t fs b) where
   -- the child under a pivot of the branch
   module _ (j : ℕ) (c : Child rows b 0 j j i.parts fs) where
     pub under_child : ReadyUnder degree bucket rows (get_or b.pivots j 0) at c.tree c.below
     under_child =
-        let r = child_ready degree bucket too_deep rows n at t fs b i j c in
         record {
           row = c.row;
           there = c.there;
-          ready = record { shows = r.shows; apart = r.apart; within = r.within; deep = omega (arith, r.deep); branching = r.branching; leaves = r.leaves };
+          ready = child_ready degree bucket rows n at t fs b i j c;
           apart = pivot_apart rows b (at ∷ []) i.parts fs i.ready j c;
         }
 
   -- a node is written to a row that is none of them
   module _ (pivot : ℕ) (m : Node) (rows₁ : List (Row E)) (apart : Absent pivot (at ∷ fs)) (put : rows₁ ≡ with_node pivot m rows) where
-    pub still_branch : IsBranch degree bucket too_deep rows₁ n at t fs b
+    pub still_branch : IsBranch degree bucket rows₁ n at t fs b
     still_branch =
         record {
           parts = i.parts;
@@ -50,7 +49,6 @@ module _ {E : Type 0} (degree bucket : ℕ) (rows : List (Row E)) (n : Node) (at
             apart = i.ready.apart;
           };
           within = omega (arith, i.within, ap length put ∙ length_changed rows pivot (over pivot m));
-          deep = i.deep;
           branching = i.branching;
           leaves = i.leaves;
         }
@@ -70,8 +68,8 @@ module _ {E : Type 0} (degree bucket : ℕ) (rows : List (Row E)) (n : Node) (at
 
 -- the branch in a pivot's row is widened, and the sample goes on below its nearest pivot
 module _ {E : Type 0} (dist : E → E → ℕ) (degree bucket : ℕ) (rows rows₁ : List (Row E)) (pivot at : ℕ) (t : Tree E) (fs : List ℕ) (own : Row E) (r : ReadyUnder degree bucket rows pivot at t fs) (here : slice_get rows at ≡ Some own)
-    (b b' : BranchRecord) (i : IsBranch degree bucket too_deep rows r.row.node at t fs b) (j : ℕ) (near : Approaches dist rows own.element b b' j) (put : rows₁ ≡ with_node pivot (node.Branch b') rows) where
-  abbrev i₁ : IsBranch degree bucket too_deep rows₁ r.row.node at t fs b
+    (b b' : BranchRecord) (i : IsBranch degree bucket rows r.row.node at t fs b) (j : ℕ) (near : Approaches dist rows own.element b b' j) (put : rows₁ ≡ with_node pivot (node.Branch b') rows) where
+  abbrev i₁ : IsBranch degree bucket rows₁ r.row.node at t fs b
   i₁ = still_branch degree bucket rows r.row.node at t fs b i pivot (node.Branch b') rows₁ r.apart put
 
   abbrev child₁ : Child rows₁ b 0 j j i₁.parts fs
@@ -86,7 +84,7 @@ module _ {E : Type 0} (dist : E → E → ℕ) (degree bucket : ℕ) (rows rows�
         there = put_others pivot (node.Branch b') rows rows₁ put at r.apart.0 ∙ here;
         lower = child_lower i₁.parts t child₁.tree j i₁.tree child₁.is_child;
         left = λ later below. put_before pivot (node.Branch b') (λ lies. Shuffle ℕ lies (at ∷ fs)) rows rows₁ later (grown dist degree bucket (sample_in own) t) (at ∷ fs) r.row r.there r.apart put
-            (filed_below degree bucket too_deep rows₁ r.row.node at t fs b i₁ dist (kept_or_split dist degree bucket) later b' j (sample_in own) child₁
+            (filed_below degree bucket rows₁ r.row.node at t fs b i₁ dist (kept_or_split dist degree bucket) later b' j (sample_in own) child₁
             (still_near degree bucket rows r.row.node at t fs b i pivot (node.Branch b') rows₁ r.apart put dist own.element b' j near) below);
       }
 
@@ -108,15 +106,16 @@ module _ {E : Type 0} (dist : E → E → ℕ) (degree bucket : ℕ) (rows : Lis
         let u = so_far t fs row r there in
         u.left rows₂ (done u.tree u.lies row u.ready u.there)
 
--- how many branches deep the tree is that the node in a row shows
+-- how many branches deep the tree is that the node in a row shows: never more than there are rows
 module _ {E : Type 0} (rows : List (Row E)) where
   abbrev levels_on : Option (Row E) → ℕ
   levels_on None = 0
-  levels_on (Some r) = height (tree_of too_deep rows r.node)
+  levels_on (Some r) = height (tree_of (suc (length rows)) rows r.node)
 
   unfoldable pub levels_below : ℕ → ℕ
   levels_below i = levels_on (slice_get rows i)
 
-  pub levels_are : (pivot : ℕ) (row : Row E) (t : Tree E) (fs : List ℕ) → slice_get rows pivot ≡ Some row → Shows rows row.node t fs → height t < too_deep → levels_below pivot ≡ height t
+  pub levels_are : (degree : ℕ) → 1 ≤ degree → (pivot : ℕ) (row : Row E) (t : Tree E) (fs : List ℕ) → slice_get rows pivot ≡ Some row → Shows rows row.node t fs → Distinct fs → Branching degree t → levels_below pivot ≡ height t
   unfolding levels_below
-  levels_are pivot row t fs there shows deep = ap levels_on there ∙ ap height (shown_tree rows t too_deep row.node fs shows deep)
+  levels_are degree some pivot row t fs there shows apart branching =
+      ap levels_on there ∙ ap height (shown_tree rows t (suc (length rows)) row.node fs shows (omega (arith, height_within degree some rows row.node t fs shows apart branching)))

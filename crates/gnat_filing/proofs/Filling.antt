@@ -46,10 +46,10 @@ module _ {E : Type 0} where
   flat_leaf rows n (branch ps) fs d s = absurd (omega arith)
 
   -- a leaf with room takes one row more
-  pub leaf_takes : (dist : E → E → ℕ) (degree : ℕ) (rows : List (Row E)) (n n' : Node) (at : ℕ) (t : Tree E) (fs : List ℕ) (row : Row E) → slice_get rows at ≡ Some row → Ready degree 31 1 rows n at t fs → Lengthened n n' at → LeavesTree rows rows n' (filed dist leaf (sample_in row) t) (at ∷ fs)
-  leaf_takes dist degree rows n n' at t fs row there r longer =
-      let s = flat_leaf rows n t fs r.deep r.shows in
-      let i = is_leaf degree 31 1 rows n at t fs row s.0 s.1 there r in
+  pub leaf_takes : (dist : E → E → ℕ) (degree : ℕ) (rows : List (Row E)) (n n' : Node) (at : ℕ) (t : Tree E) (fs : List ℕ) (row : Row E) → slice_get rows at ≡ Some row → Ready degree 31 rows n at t fs → height t < 1 → Lengthened n n' at → LeavesTree rows rows n' (filed dist leaf (sample_in row) t) (at ∷ fs)
+  leaf_takes dist degree rows n n' at t fs row there r flat longer =
+      let s = flat_leaf rows n t fs flat r.shows in
+      let i = is_leaf degree 31 rows n at t fs row s.0 s.1 there r in
       let w = longer s.0 s.1 in
       let made = leaf_longer 31 rows s.0 at (i.samples ++ (sample_in row ∷ [])) i.ready w.0 (omega (arith, i.ready.count)) w.2 in
       subst (λ z. LeavesTree rows rows n' (filed dist leaf (sample_in row) z) (at ∷ fs)) (sym i.tree)
@@ -101,7 +101,7 @@ module _ {E : Type 0} where
 
   module _ (dist : E → E → ℕ) (degree : ℕ) (rows rows₁ : List (Row E)) (b b₁ : BranchRecord) (is : List ℕ) (t : Tree E) (fs : List ℕ) (xs : List (Sample E)) (f : Fillable degree rows b is t fs xs)
       (i : ℕ) (l : i < length is) (made : LeavesTree rows rows₁ (node.Branch b₁) (filed_all dist leaf (take i xs) t) (take i is ++ fs)) where
-    pub fill_ready : Ready degree 31 2 rows₁ (node.Branch b₁) (get_or is i 0) (filed_all dist leaf (take i xs) t) made.lies
+    pub fill_ready : Ready degree 31 rows₁ (node.Branch b₁) (get_or is i 0) (filed_all dist leaf (take i xs) t) made.lies
     fill_ready =
         let at = get_or is i 0 in
         let apart = distinct_left (at ∷ (take i is ++ fs)) (drop (i + 1) is) (distinct_shuffle (is ++ fs) ((at ∷ (take i is ++ fs)) ++ drop (i + 1) is) (next_front is i fs l) f.apart) in
@@ -111,10 +111,12 @@ module _ {E : Type 0} where
           shows = made.shows;
           apart = (all_shuffle (λ k. at ≡ k → ⊥) (take i is ++ fs) made.lies back apart.0, distinct_shuffle (take i is ++ fs) made.lies back apart.1);
           within = All-get_or (λ k. k < length rows₁) is i 0 l (holds_within rows₁ is xs (holds_kept rows rows₁ (take i is ++ fs) is xs made.only f.holds));
-          deep = omega (arith, all_height dist (take i xs) t, f.flat);
           branching = filed_all_branching dist leaf degree (λ ys. tt) (take i xs) t f.branching;
           leaves = leaves_more (0 + length (take i xs)) 31 (omega arith) (filed_all dist leaf (take i xs) t) (leaf_filed_leaves dist 0 (take i xs) t f.leaves);
         }
+
+    pub fill_flat : height (filed_all dist leaf (take i xs) t) < 2
+    fill_flat = omega (arith, all_height dist (take i xs) t, f.flat)
 
     pub fill_more : (rows₂ : List (Row E)) (b₂ : BranchRecord) → ((row : Row E) → slice_get rows₁ (get_or is i 0) ≡ Some row → LeavesTree rows₁ rows₂ (node.Branch b₂) (filed dist leaf (sample_in row) (filed_all dist leaf (take i xs) t)) (get_or is i 0 ∷ made.lies))
         → LeavesTree rows rows₂ (node.Branch b₂) (filed_all dist leaf (take (i + 1) xs) t) (take (i + 1) is ++ fs)

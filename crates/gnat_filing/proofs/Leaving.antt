@@ -51,7 +51,7 @@ module _ {E : Type 0} (most : ℕ) (rows : List (Row E)) (l : LeafRecord) (at : 
   pub wider : (more : ℕ) → most ≤ more → ReadyLeaf more rows l at xs
   wider more m = record { thirty_two = r.thirty_two; count = omega (arith, r.count); apart = r.apart; holds = r.holds }
 
-module _ {E : Type 0} (degree bucket left : ℕ) (rows : List (Row E)) (n : Node) (at : ℕ) (t : Tree E) (fs : List ℕ) (row : Row E) where
+module _ {E : Type 0} (degree bucket : ℕ) (rows : List (Row E)) (n : Node) (at : ℕ) (t : Tree E) (fs : List ℕ) (row : Row E) where
   -- the samples of the leaf that the tree is
   pub record IsLeaf (l : LeafRecord) : Type 0 where
     pub samples : List (Sample E)
@@ -59,7 +59,7 @@ module _ {E : Type 0} (degree bucket left : ℕ) (rows : List (Row E)) (n : Node
     pub lies : held l ≡ fs
     pub ready : ReadyLeaf bucket rows l at (samples ++ (sample_in row ∷ []))
 
-  pub is_leaf : (l : LeafRecord) → n ≡ node.Leaf l → slice_get rows at ≡ Some row → Ready degree bucket left rows n at t fs → IsLeaf l
+  pub is_leaf : (l : LeafRecord) → n ≡ node.Leaf l → slice_get rows at ≡ Some row → Ready degree bucket rows n at t fs → IsLeaf l
   is_leaf l e there r =
       let s = shows_leaf rows n l t fs e r.shows in
       let few : length s.0 ≤ bucket = subst (Leaves bucket) s.1 r.leaves in
@@ -77,7 +77,7 @@ module _ {E : Type 0} (degree bucket left : ℕ) (rows : List (Row E)) (n : Node
       }
 
   -- the tree of a leaf with one more row
-  pub leaf_filed : (l : LeafRecord) (e : n ≡ node.Leaf l) (there : slice_get rows at ≡ Some row) (r : Ready degree bucket left rows n at t fs) (dist : E → E → ℕ) (rows' : List (Row E)) (n' : Node) → Becomes (kept_or_split dist degree bucket) bucket rows rows' l n' at
+  pub leaf_filed : (l : LeafRecord) (e : n ≡ node.Leaf l) (there : slice_get rows at ≡ Some row) (r : Ready degree bucket rows n at t fs) (dist : E → E → ℕ) (rows' : List (Row E)) (n' : Node) → Becomes (kept_or_split dist degree bucket) bucket rows rows' l n' at
       → LeavesTree rows rows' n' (grown dist degree bucket (sample_in row) t) (at ∷ fs)
   leaf_filed l e there r dist rows' n' becomes =
       let i = is_leaf l e there r in

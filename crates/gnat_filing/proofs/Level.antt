@@ -1,5 +1,5 @@
 -- Filing at one branch: the child under the nearest pivot is filed into, and put back. Assumes nothing.
-use Rattle.std.proofs.Common.{◌≡◌, ℕ, zero, suc, ◌+◌, ◌-◌, ◌<◌, ◌≤◌, List, [], ◌∷◌, ◌++◌, length, get_or, take, sym, refl, ap, ◌∙◌, subst, arith}
+use Rattle.std.proofs.Common.{◌≡◌, ℕ, zero, suc, ◌+◌, ◌<◌, ◌≤◌, List, [], ◌∷◌, ◌++◌, length, get_or, take, sym, refl, ap, ◌∙◌, subst, arith}
 use Rattle.std.specs.List.{AllByRecursion}
 use Rattle.std.proofs.ByRecursion.{All-weaker}
 use Rattle.std.proofs.lemmas.Option.{slice_get_within}
@@ -112,17 +112,16 @@ child_lower ps t u j is child =
     let below = of_child (λ v. height v ≤ height_parts ps) (λ qs. height_parts qs ≤ height_parts ps) (λ p col v rest h. (omega arith, omega arith)) j ps u child (omega arith) in
     omega (arith, below, ap height is)
 
-module _ {E : Type 0} (degree bucket left : ℕ) (rows : List (Row E)) (n : Node) (at : ℕ) (t : Tree E) (fs : List ℕ) where
+module _ {E : Type 0} (degree bucket : ℕ) (rows : List (Row E)) (n : Node) (at : ℕ) (t : Tree E) (fs : List ℕ) where
   pub record IsBranch (b : BranchRecord) : Type 0 where
     pub parts : Parts E
     pub tree : t ≡ branch parts
     pub ready : ReadyBranch rows b (at ∷ []) parts fs
     pub within : at < length rows
-    pub deep : suc (height_parts parts) < left
     pub branching : BranchingParts degree parts
     pub leaves : LeavesParts bucket parts
 
-  pub is_branch : (b : BranchRecord) → 1 ≤ degree → n ≡ node.Branch b → Ready degree bucket left rows n at t fs → IsBranch b
+  pub is_branch : (b : BranchRecord) → 1 ≤ degree → n ≡ node.Branch b → Ready degree bucket rows n at t fs → IsBranch b
   is_branch b one e r =
       let s = shows_branch rows n b t fs e r.shows in
       let branching = subst (Branching degree) s.1 r.branching in
@@ -131,19 +130,17 @@ module _ {E : Type 0} (degree bucket left : ℕ) (rows : List (Row E)) (n : Node
         tree = s.1;
         ready = record { parts = s.4; count = s.2; most = s.3; some = omega (arith, s.2, branching.0); apart = r.apart };
         within = r.within;
-        deep = subst (λ z. height z < left) s.1 r.deep;
         branching = branching.1;
         leaves = subst (Leaves bucket) s.1 r.leaves;
       }
 
   module _ (b : BranchRecord) (i : IsBranch b) where
-    pub child_ready : (j : ℕ) (c : Child rows b 0 j j i.parts fs) → Ready degree bucket (left - 1) rows c.row.node at c.tree c.below
+    pub child_ready : (j : ℕ) (c : Child rows b 0 j j i.parts fs) → Ready degree bucket rows c.row.node at c.tree c.below
     child_ready j c =
         record {
           shows = c.shows;
           apart = below_apart rows b (at ∷ []) i.parts fs i.ready j c;
           within = i.within;
-          deep = of_child (λ u. height u < left - 1) (λ ps. height_parts ps < left - 1) (λ p col u rest h. (omega arith, omega arith)) j i.parts c.tree c.is_child (omega (arith, i.deep));
           branching = of_child (Branching degree) (BranchingParts degree) (λ p col u rest h. h) j i.parts c.tree c.is_child i.branching;
           leaves = of_child (Leaves bucket) (LeavesParts bucket) (λ p col u rest h. h) j i.parts c.tree c.is_child i.leaves;
         }

@@ -34,7 +34,7 @@ use Rattle.gnat_rows.proofs.Showing.{Same, frame, shows_leaf, shows_branch, Chil
 use Rattle.gnat_filing.specs.Dropping.{without_row, Shortened, Droppable, Drops}
 use Rattle.gnat_filing.specs.Seeking.{DropsUnder}
 use Rattle.gnat_filing.specs.Widening.{Measured}
-use Rattle.gnat_filing.proofs.Level.{ReadyBranch, nth_child, distances_are, below_apart, level, replaced_length, child_lower}
+use Rattle.gnat_filing.proofs.Level.{ReadyBranch, nth_child, distances_are, below_apart, level, replaced_length}
 
 without_absent : (at : ℕ) (is : List ℕ) → Absent at is → without_row at is ≡ is
 without_absent at [] a = refl
@@ -315,7 +315,6 @@ module _ {E : Type 0} (dist : E → E → ℕ) (degree : ℕ) (rows : List (Row 
             there = d.there;
             lies = mine;
             stands = below_stands;
-            deep = omega (arith, d.deep, child_lower ps t c.tree j i.tree c.is_child);
             some = d.some;
             branching = of_child (Branching degree) (BranchingParts degree) (λ p col u rest h. h) j ps c.tree c.is_child i.branching;
             placed = (nearest_here dist (pivots ps) 0 j ps c.tree c.is_child i.placed).1;

@@ -13,8 +13,7 @@ use Rattle.gnat_rows.specs.declared.Node.{Node}
 use Rattle.gnat_rows.specs.declared.Row.{Row}
 use Rattle.gnat_rows.specs.Shows.{sample_in, held, Shows}
 use Rattle.gnat_rows.specs.Lying.{Distinct}
-use Rattle.gnat_rows.specs.Trees.{height}
-use Rattle.gnat_filing.specs.Filed.{too_deep, LeavesIn}
+use Rattle.gnat_filing.specs.Filed.{LeavesIn}
 
 -- the other rows, in their order
 abbrev pub without_row : ℕ → List ℕ → List ℕ
@@ -39,7 +38,6 @@ module _ {E : Type 0} where
     pub there : slice_get rows at ≡ Some row
     pub lies : Among at fs
     pub stands : Among (sample_in row) (standing t)
-    pub deep : height t < too_deep
     pub some : 1 ≤ degree
     pub branching : Branching degree t
     pub placed : Placed dist t

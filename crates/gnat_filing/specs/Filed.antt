@@ -11,24 +11,19 @@ use Rattle.gnat_rows.specs.declared.Node.{Node}
 use Rattle.gnat_rows.specs.declared.Row.{Row}
 use Rattle.gnat_rows.specs.Shows.{sample_in, held, HoldsSamples, Shows}
 use Rattle.gnat_rows.specs.Lying.{Distinct, OnlyIn}
-use Rattle.gnat_rows.specs.Trees.{height}
-
--- no tree over 1,024 rows is so many branches deep
-abbrev pub too_deep : ℕ
-too_deep = 1025
 
 module _ {E : Type 0} where
-  -- the rows show the tree t from the node on, in fs, and the row `at` is another
-  pub record Ready (degree bucket left : ℕ) (rows : List (Row E)) (node : Node) (at : ℕ) (t : Tree E) (fs : List ℕ) : Type 0 where
+  -- The rows show the tree t from the node on, in fs, and the row `at` is another. Its height needs no bound here: the rows in
+  -- which it lies are apart, so it is no higher than there are rows.
+  pub record Ready (degree bucket : ℕ) (rows : List (Row E)) (node : Node) (at : ℕ) (t : Tree E) (fs : List ℕ) : Type 0 where
     pub shows : Shows rows node t fs
     pub apart : Distinct (at ∷ fs)
     pub within : at < length rows
-    pub deep : height t < left
     pub branching : Branching degree t
     pub leaves : Leaves bucket t
 
   abbrev pub Fileable : ℕ → ℕ → List (Row E) → Node → ℕ → Type 0
-  Fileable degree bucket rows node at = (t : Tree E) × (fs : List ℕ) × Ready degree bucket too_deep rows node at t fs
+  Fileable degree bucket rows node at = (t : Tree E) × (fs : List ℕ) × Ready degree bucket rows node at t fs
 
   -- the rows show a tree from the node on, and of the rows in which it lies this holds; no row but fs is changed
   pub record LeavesIn (Order : List ℕ → Type 0) (rows rows' : List (Row E)) (node' : Node) (t : Tree E) (fs : List ℕ) : Type 0 where
@@ -59,5 +54,5 @@ module _ {E : Type 0} (dist : E → E → ℕ) (degree bucket : ℕ) where
   -- whatever tree the rows showed, they show it with the sample of the row `at` filed
   abbrev pub FilesIn : List (Row E) → List (Row E) → Node → Node → ℕ → Type 0
   FilesIn rows rows' node node' at =
-      (t : Tree E) (fs : List ℕ) (row : Row E) → Ready degree bucket too_deep rows node at t fs → slice_get rows at ≡ Some row
+      (t : Tree E) (fs : List ℕ) (row : Row E) → Ready degree bucket rows node at t fs → slice_get rows at ≡ Some row
       → LeavesTree rows rows' node' (grown dist degree bucket (sample_in row) t) (at ∷ fs)

@@ -34,7 +34,7 @@ module _ {E : Type 0} where
 
   -- what a sample can be filed in without a split: a branch over leaves that have room
   abbrev pub BelowFileable : List (Row E) → Branch → ℕ → Type 0
-  BelowFileable rows b at = (degree : ℕ) × (t : Tree E) × (fs : List ℕ) × (1 ≤ degree) × Ready degree 31 2 rows (node.Branch b) at t fs
+  BelowFileable rows b at = (degree : ℕ) × (t : Tree E) × (fs : List ℕ) × (1 ≤ degree) × Ready degree 31 rows (node.Branch b) at t fs × (height t < 2)
 
   -- a branch over empty leaves, and rows of samples to file below it
   pub record Fillable (degree : ℕ) (rows : List (Row E)) (b : Branch) (is : List ℕ) (t : Tree E) (fs : List ℕ) (xs : List (Sample E)) : Type 0 where
@@ -64,7 +64,7 @@ module _ {E : Type 0} (dist : E → E → ℕ) where
 
   abbrev pub FilesBelow : List (Row E) → List (Row E) → Branch → Branch → ℕ → Type 0
   FilesBelow rows rows' b b' at =
-      (degree : ℕ) (t : Tree E) (fs : List ℕ) (row : Row E) → 1 ≤ degree → Ready degree 31 2 rows (node.Branch b) at t fs → slice_get rows at ≡ Some row
+      (degree : ℕ) (t : Tree E) (fs : List ℕ) (row : Row E) → 1 ≤ degree → Ready degree 31 rows (node.Branch b) at t fs → height t < 2 → slice_get rows at ≡ Some row
       → LeavesTree rows rows' (node.Branch b') (filed dist leaf (sample_in row) t) (at ∷ fs)
 
   -- the first n rows of `is` are filed

@@ -11,14 +11,14 @@ use Rattle.gnat_rows.specs.Rows.{HasRow}
 use Rattle.gnat_rows.specs.Shows.{sample_in, pivot_in, Shows}
 use Rattle.gnat_rows.specs.Lying.{Absent, OnlyIn}
 use Rattle.gnat_rows.specs.Trees.{height}
-use Rattle.gnat_filing.specs.Filed.{too_deep, Ready}
+use Rattle.gnat_filing.specs.Filed.{Ready}
 
 module _ {E : Type 0} where
   -- a pivot's row, over a node in whose tree the sample of the row `at` may be filed
   pub record ReadyUnder (degree bucket : ℕ) (rows : List (Row E)) (pivot at : ℕ) (t : Tree E) (fs : List ℕ) : Type 0 where
     pub row : Row E
     pub there : slice_get rows pivot ≡ Some row
-    pub ready : Ready degree bucket too_deep rows row.node at t fs
+    pub ready : Ready degree bucket rows row.node at t fs
     pub apart : Absent pivot (at ∷ fs)
 
   abbrev pub FileableUnder : ℕ → ℕ → List (Row E) → ℕ → ℕ → Type 0

@@ -1,19 +1,26 @@
 -- Lists of rows that are apart. Assumes nothing.
-use Rattle.std.proofs.Common.{◌≡◌, ℕ, List, [], ◌∷◌, ◌++◌, sym}
-use Rattle.std.specs.List.{AllByRecursion}
+use Rattle.std.proofs.Common.{◌≡◌, ℕ, ◌<◌, ◌≤◌, true, false, eqb, List, [], ◌∷◌, ◌++◌, length, sym, ⊎_elim, arith}
+use Rattle.std.specs.List.{AllByRecursion, IsDistinct, list_any}
+use Rattle.std.proofs.ByRecursion.{All-weaker}
+use Rattle.std.proofs.lemmas.Bool.{eqb-true, ne_eqb, cases_Bool}
+use Rattle.std.proofs.lemmas.Map.Steps.{length-le_from_distinct_below}
 use Rattle.hits.proofs.Among.{all_left, all_right, all_both}
 use Rattle.gnat_theory.specs.Shuffles.{Shuffle}
 use Rattle.gnat_theory.specs.Shuffles.Shuffle.{nothing, after, swapped, in_turn}
 use Rattle.gnat_theory.proofs.Shuffling.{all_shuffle, shuffle_front, shuffle_middle, shuffle_back, shuffle_before}
 use Rattle.gnat_rows.specs.Lying.{Absent, Distinct}
 
-all_always : {X : Type 0} (P : X → Type 0) → ((x : X) → P x) → (xs : List X) → AllByRecursion P xs
+pub all_always : {X : Type 0} (P : X → Type 0) → ((x : X) → P x) → (xs : List X) → AllByRecursion P xs
 all_always P f [] = tt
 all_always P f (x ∷ xs) = (f x, all_always P f xs)
 
 pub distinct_left : (xs ys : List ℕ) → Distinct (xs ++ ys) → Distinct xs
 distinct_left [] ys d = tt
 distinct_left (x ∷ xs) ys d = (all_left (λ j. x ≡ j → ⊥) xs ys d.0, distinct_left xs ys d.1)
+
+pub distinct_right : (xs ys : List ℕ) → Distinct (xs ++ ys) → Distinct ys
+distinct_right [] ys d = d
+distinct_right (x ∷ xs) ys d = distinct_right xs ys d.1
 
 -- what comes behind is none of those before
 pub distinct_across : (xs ys : List ℕ) → Distinct (xs ++ ys) → AllByRecursion (λ y. Absent y xs) ys
@@ -52,3 +59,20 @@ arranged_back at before i below below' behind s =
     (in_turn middle front old
     (after i (below' ++ (before ++ behind)) ((at ∷ below) ++ (before ++ behind)) (shuffle_before (before ++ behind) below' (at ∷ below) s))
     (shuffle_back old front (arranged_with (at ∷ []) before i below behind)))
+
+-- the same by the test of the library's sets
+apart_by_test : (is : List ℕ) → Distinct is → IsDistinct eqb is
+unfolding IsDistinct
+apart_by_test [] d = tt
+apart_by_test (i ∷ is) d = (All-weaker (λ j. i ≡ j → ⊥) (λ j. eqb i j ≡ false) (λ j ne. ne_eqb i j ne) is d.0, apart_by_test is d.1)
+
+found_below : (n : ℕ) (is : List ℕ) → AllByRecursion (λ i. i < n) is → (q : ℕ) → list_any (eqb q) is ≡ true → q < n
+found_below n [] a q h = cc
+found_below n (i ∷ is) a q h = ⊎_elim
+    (λ t. let e : q ≡ i = eqb-true q i t in omega (arith, a.0))
+    (λ f. found_below n is a.1 q (rw f at h))
+    (cases_Bool (eqb q i))
+
+-- numbers below n that are apart are at most n
+pub distinct_few : (n : ℕ) (is : List ℕ) → AllByRecursion (λ i. i < n) is → Distinct is → length is ≤ n
+distinct_few n is below d = length-le_from_distinct_below is n (apart_by_test is d) (found_below n is below)

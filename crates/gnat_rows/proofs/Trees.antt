@@ -5,11 +5,15 @@ use Rattle.gnat_theory.specs.Tree.{Tree, Parts, pivots}
 use Rattle.gnat_theory.specs.Tree.Tree.{leaf, branch}
 use Rattle.gnat_theory.specs.Tree.Parts.{none, part}
 use Rattle.gnat_theory.specs.Shapes.{Branching, BranchingParts, pivot_count, part_count}
+use Rattle.gnat_theory.proofs.Theorems.{rows_counted}
 use Rattle.gnat_rows.specs.declared.Branch.{Branch as BranchRecord}
 use Rattle.gnat_rows.specs.declared.Node.{Node}
 use Rattle.gnat_rows.specs.declared.Row.{Row}
+use Rattle.gnat_rows.specs.Lying.{Distinct}
 use Rattle.gnat_rows.specs.Shows.{HoldsSamples, Shows, ShowsParts, column}
 use Rattle.gnat_rows.specs.Trees.{sample_on, samples_at, part_on, parts_by, tree_of, height, height_parts}
+use Rattle.gnat_rows.proofs.Apart.{distinct_few}
+use Rattle.gnat_rows.proofs.Showing.{shows_within, shows_length}
 
 module _ {E : Type 0} (rows : List (Row E)) where
   pub held_samples : (is : List ℕ) (xs : List (Sample E)) → HoldsSamples rows is xs → samples_at rows is ≡ xs
@@ -56,3 +60,8 @@ module _ {E : Type 0} (degree : ℕ) (some : 1 ≤ degree) where
     parts_bound : (ps : Parts E) → BranchingParts degree ps → height_parts ps ≤ part_count ps
     parts_bound none b = omega arith
     parts_bound (part p col t rest) b = omega (arith, height_bound t b.0, parts_bound rest b.1)
+
+  -- so it is no higher than there are rows, if those that it lies in are apart
+  pub height_within : (rows : List (Row E)) (n : Node) (t : Tree E) (fs : List ℕ) → Shows rows n t fs → Distinct fs → Branching degree t → height t ≤ length rows
+  height_within rows n t fs s d b =
+      omega (arith, height_bound t b, rows_counted (λ e f. 0) t, shows_length rows n t fs s, distinct_few (length rows) fs (shows_within rows n t fs s) d)

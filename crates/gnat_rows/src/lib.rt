@@ -84,6 +84,14 @@ pub fn number_in<E: Metric>(rows: &[Row<E>], at: usize) -> u16
     rows[at].number
 }
 
+/// Whether the sample of the row `at` is marked, which must be a row of the list. Of a row with no sample it says nothing.
+pub fn marked_in<E: Metric>(rows: &[Row<E>], at: usize) -> bool
+    requires { at < length rows.now }
+    ensures { HasRow rows.now at (λ row. result ≡ row.marked) }
+{
+    rows[at].marked
+}
+
 pub fn place_in<E: Metric>(rows: &[Row<E>], at: usize) -> u16
     requires { at < length rows.now }
     ensures { HasRow rows.now at (λ row. result ≡ row.place) }

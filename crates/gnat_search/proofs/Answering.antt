@@ -1,5 +1,5 @@
 -- What the search of an index's tree has found, in terms of the samples that stand. Assumes the laws of the distance.
-use Rattle.std.proofs.Common.{◌≡◌, ℕ, min, List, length, take, ap, ◌∙◌, arith, length-take}
+use Rattle.std.proofs.Common.{◌≡◌, ℕ, ◌≤◌, min, List, length, take, ap, ◌∙◌, arith, length-take}
 use Rattle.std.proofs.lemmas.List.{take-take}
 use Rattle.metric.specs.Laws.{MetricLaws}
 use Rattle.hits.specs.declared.Hit.{Hit}
@@ -7,8 +7,8 @@ use Rattle.hits.specs.Lists.{over}
 use Rattle.hits.specs.Order.{inside}
 use Rattle.hits.specs.Samples.{Sample, hits}
 use Rattle.hits.proofs.Ranking.{length_hits}
-use Rattle.gnat_theory.specs.Tree.{Tree}
-use Rattle.gnat_theory.specs.Searching.{start, nearest_hits, hits_within, searched}
+use Rattle.gnat_theory.specs.Tree.{Tree, members}
+use Rattle.gnat_theory.specs.Searching.{Want, start, nearest_hits, hits_within, searched}
 use Rattle.gnat_theory.specs.Keeping.{Files}
 use Rattle.gnat_theory.proofs.Theorems.{search_exact}
 use Rattle.gnat_search.specs.declared.found.Found.{Found}
@@ -35,3 +35,7 @@ module _ {E : Type 0} (top : ℕ) (dist : E → E → ℕ) (laws : MetricLaws to
 
     pub within_written : new ≡ over (take (length old) (inside radius (hits dist q xs))) old
     within_written = k.writes ∙ ap (λ z. over (take (length old) z) old) within_is
+
+  -- each row in use is measured at most once
+  pub work_bounded : (w : Want) → Kept old new r (searched dist q w t start) → r.measured ≤ length (members t)
+  work_bounded w k = omega (arith, k.measures, (search_exact top dist laws degree bucket xs t q files).work w)

@@ -42,8 +42,8 @@ loop-next-smaller g c =
     let here = slice_get-get_or rows pivot d (slice_get_within rows pivot u.ready.row u.ready.there) in
     let same = same_row rows pivot u.ready.row (get_or rows pivot d) u.ready.there here in
     let v = c.in-Some.ensures p.0 u.tree u.lies p.3 (subst (λ z. Droppable g.E.Metric.dist p.0 rows z.node c.args.at u.tree u.lies p.3) same u.ready.ready) in
-    let before = levels_are rows pivot u.ready.row u.tree u.lies u.ready.there u.ready.ready.shows u.ready.ready.deep in
-    let after = levels_are rows c.in-Some.next v.ready.row v.tree v.lies v.ready.there v.ready.ready.shows v.ready.ready.deep in
+    let before = levels_are rows p.0 u.ready.ready.some pivot u.ready.row u.tree u.lies u.ready.there u.ready.ready.shows u.ready.ready.apart u.ready.ready.branching in
+    let after = levels_are rows p.0 v.ready.ready.some c.in-Some.next v.ready.row v.tree v.lies v.ready.there v.ready.ready.shows v.ready.ready.apart v.ready.ready.branching in
     omega (arith, v.lower, before, after)
 
 pub loop-next-preserved : goal.loop-next-preserved

@@ -1,7 +1,6 @@
 use Rattle.std.proofs.Common.{[], ◌∷◌, ap, ◌∙◌, subst, arith}
 use Rattle.std.proofs.lemmas.Option.{slice_get_within}
 use Rattle.gnat_rows.proofs.Changes.{same_row}
-use Rattle.gnat_filing.specs.Filed.{too_deep}
 use Rattle.gnat_filing.specs.Widening.{Approaches}
 use Rattle.gnat_filing.proofs.Level.{is_branch, pivoted}
 use Rattle.gnat_filing.proofs.Descending.{one_lower}
@@ -14,7 +13,7 @@ approach-j-requires g c =
     let r = p.3.2 in
     let held = c.requires.branch in
     let same = ap (λ z. z.node) (same_row rows c.args.pivot r.row held.0 r.there held.1) ∙ held.2 in
-    let i = is_branch p.0 p.1 too_deep rows r.row.node c.args.at p.3.0 p.3.1 c.args.b p.2 same r.ready in
+    let i = is_branch p.0 p.1 rows r.row.node c.args.at p.3.0 p.3.1 c.args.b p.2 same r.ready in
     pivoted rows c.args.b (c.args.at ∷ []) i.parts p.3.1 i.ready
 
 pub put_node-requires : goal.put_node-requires
@@ -27,7 +26,7 @@ bounds-b-j g c =
     let r = p.3.2 in
     let held = c.requires.branch in
     let same = ap (λ z. z.node) (same_row rows c.args.pivot r.row held.0 r.there held.1) ∙ held.2 in
-    let i = is_branch p.0 p.1 too_deep rows r.row.node c.args.at p.3.0 p.3.1 c.args.b p.2 same r.ready in
+    let i = is_branch p.0 p.1 rows r.row.node c.args.at p.3.0 p.3.1 c.args.b p.2 same r.ready in
     omega (arith, i.ready.most, c.approach-j.ensures.below)
 
 pub returns : goal.returns
@@ -38,7 +37,7 @@ returns g c degree bucket one t fs row r there =
     let j = c.approach-j.result in
     let held = c.requires.branch in
     let same = ap (λ z. z.node) (same_row rows c.args.pivot r.row held.0 r.there held.1) ∙ held.2 in
-    let i = is_branch degree bucket too_deep rows r.row.node at t fs b one same r.ready in
+    let i = is_branch degree bucket rows r.row.node at t fs b one same r.ready in
     let own = c.element_in-element.ensures in
     let element = own.2 ∙ ap (λ z. z.element) (same_row rows at own.0 row own.1 there) in
     let near = subst (λ z. Approaches g.E.Metric.dist rows z b c.approach-j.new.b j) element c.approach-j.ensures in

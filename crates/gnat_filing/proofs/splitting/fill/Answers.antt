@@ -7,7 +7,7 @@ use Rattle.gnat_rows.specs.Shows.{sample_in}
 use Rattle.gnat_rows.specs.declared.Node.TheVariants as node
 use Rattle.gnat_filing.specs.Choosing.{blank, rows_of}
 use Rattle.gnat_filing.specs.Filed.{Ready, LeavesTree}
-use Rattle.gnat_filing.proofs.Filling.{fill_none, fill_ready, fill_more}
+use Rattle.gnat_filing.proofs.Filling.{fill_none, fill_ready, fill_flat, fill_more}
 use Rattle.gnat_filing.proofs.splitting.fill.Goals as goal
 
 pub loop-c-init : goal.loop-c-init
@@ -27,8 +27,9 @@ file_below-requires g c =
       filed_all dist leaf (take i p.3) p.1,
       made.lies,
       p.4.some,
-      subst (λ z. Ready p.0 31 2 c.loop-c.rows (node.Branch c.loop-c.b) z (filed_all dist leaf (take i p.3) p.1) made.lies) at
+      subst (λ z. Ready p.0 31 c.loop-c.rows (node.Branch c.loop-c.b) z (filed_all dist leaf (take i p.3) p.1) made.lies) at
           (fill_ready dist p.0 c.args.rows.now c.loop-c.rows c.args.b.now c.loop-c.b is p.1 p.2 p.3 p.4 i lt made),
+      fill_flat dist p.0 c.args.rows.now c.loop-c.rows c.args.b.now c.loop-c.b is p.1 p.2 p.3 p.4 i lt made,
     )
 
 pub loop-c-preserved : goal.loop-c-preserved
@@ -46,7 +47,8 @@ loop-c-preserved g c degree t fs xs f =
     (λ row there.
     subst (λ z. LeavesTree c.loop-c.rows c.file_below.new.rows (node.Branch c.file_below.new.b) (filed dist leaf (sample_in row) before) (z ∷ made.lies)) (sym at)
     (c.file_below.ensures degree before made.lies row f.some
-    (subst (λ z. Ready degree 31 2 c.loop-c.rows (node.Branch c.loop-c.b) z before made.lies) at ready)
+    (subst (λ z. Ready degree 31 c.loop-c.rows (node.Branch c.loop-c.b) z before made.lies) at ready)
+    (fill_flat dist degree c.args.rows.now c.loop-c.rows c.args.b.now c.loop-c.b is t fs xs f i lt made)
     (ap (slice_get c.loop-c.rows) (sym at) ∙ there)))
 
 pub returns : goal.returns

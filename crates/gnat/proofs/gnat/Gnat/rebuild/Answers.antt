@@ -8,7 +8,7 @@ pub refile-self-requires : goal.refile-self-requires
 refile-self-requires g c =
     let s = state_of c.args.self.now in
     let r = may_refile g.E.Metric.dist s (laid_out g.E.Metric.dist s c.args.self.now.sound) in
-    record { fits = r.fits; few = r.few; within = r.within; apart = r.apart }
+    record { fits = r.fits; within = r.within; apart = r.apart }
 
 pub returns : goal.returns
 returns g c =
