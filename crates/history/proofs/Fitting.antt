@@ -1,5 +1,6 @@
 -- Which calls the lists of a run fit. Assumes nothing.
 use Rattle.std.proofs.Common.{◌≡◌, ℕ, zero, suc, ◌+◌, ◌<◌, ◌≤◌, Bool, true, false, cond, leb, List, [], ◌∷◌, length, get_or, take, Ok, Err, Result, sym, refl, ap, ◌∙◌, subst, add-one, arith}
+use Rattle.std.proofs.lemmas.Bool.{leb-true}
 use Rattle.std.proofs.lemmas.List.{take_all}
 use Rattle.history.specs.declared.Call.{Call}
 use Rattle.history.specs.declared.Unplayed.{Unplayed}
@@ -26,6 +27,15 @@ abbrev tested : {E C : Type 0} → Bool → Bool → Call E C → Result Unit Un
 tested a b c = cond a (cond b (Ok tt) (Err (Numbers (number_places c)))) (Err (Hits (hit_places c)))
 
 module _ {E C : Type 0} (hits numbers : ℕ) where
+  -- a call that fits finds its places
+  pub fits_ok : (c : Call E C) → fits_call hits numbers c ≡ Ok tt → (hit_places c ≤ hits) × (number_places c ≤ numbers)
+  fits_ok c = go (leb (hit_places c) hits) (leb (number_places c) numbers) refl refl
+    where
+      go : (a b : Bool) → leb (hit_places c) hits ≡ a → leb (number_places c) numbers ≡ b → tested a b c ≡ Ok tt → (hit_places c ≤ hits) × (number_places c ≤ numbers)
+      go true true i j e = (leb-true (hit_places c) hits i, leb-true (number_places c) numbers j)
+      go true false i j e = absurd (let z : ◌≡◌ {A = ℕ} 0 1 = cc in omega arith)
+      go false b i j e = absurd (let z : ◌≡◌ {A = ℕ} 0 1 = cc in omega arith)
+
   -- a run goes on while its calls fit
   pub fitting_more : (cs : List (Call E C)) (c : Call E C) (i : ℕ) → i < length cs → c ≡ get_or cs i c → fits_call hits numbers c ≡ Ok tt → fitting hits numbers (take i cs) ≡ Ok tt → fitting hits numbers (take (i + 1) cs) ≡ Ok tt
   fitting_more cs c i l is f e = rw add-one (go cs i l is e)
@@ -47,6 +57,12 @@ module _ {E C : Type 0} (hits numbers : ℕ) where
 
   pub fitting_all : (cs : List (Call E C)) (i : ℕ) → length cs ≤ i → fitting hits numbers (take i cs) ≡ Ok tt → fitting hits numbers cs ≡ Ok tt
   fitting_all cs i l e = ap (fitting hits numbers) (sym (take_all i cs l)) ∙ e
+
+  -- each call of a list that fits
+  pub fitting_at : (cs : List (Call E C)) (c : Call E C) (i : ℕ) → i < length cs → c ≡ get_or cs i c → fitting hits numbers cs ≡ Ok tt → (hit_places c ≤ hits) × (number_places c ≤ numbers)
+  fitting_at [] c i l is e = absurd (omega arith)
+  fitting_at (x ∷ cs) c zero l is e = (let P : Call E C → Type 0 = λ z. (hit_places z ≤ hits) × (number_places z ≤ numbers) in subst P (sym is) (fits_ok x (unless_ok (fits_call hits numbers x) (fitting hits numbers cs) e).0))
+  fitting_at (x ∷ cs) c (suc i) l is e = fitting_at cs c i (omega arith) is (unless_ok (fits_call hits numbers x) (fitting hits numbers cs) e).1
 
   lists_only : (cs : List (Call E C)) → ListsOnly (fitting hits numbers cs)
   lists_only [] = tt

@@ -53,7 +53,8 @@ impl<K: Written> Reader<K> {
     fn take_line(&mut self, words: &mut Words) -> Result<(), Misplaced>
         requires more { self.old.stage ≢ End }
         requires place { words.old.place ≡ 1 }
-        ensures { (line : ℕ) → line_told line result self.new ≡ read_line (stage_shown self.old.stage) line (level_read self.old) (words_left words.old) }
+        ensures told { (line : ℕ) → line_told line result self.new ≡ read_line (stage_shown self.old.stage) line (level_read self.old) (words_left words.old) }
+        ensures header { self.new.level.header ≡ self.old.level.header }
     {
         match (self.stage, words.peek()) {
             (Stage::WallCount, Token::Letters(_, _)) => {
@@ -85,7 +86,8 @@ impl<K: Written> Reader<K> {
     // Reads a whole line. One that is not wanted is left over. That it is short is a fact of the slice, as at `Words::new`.
     fn read_line(&mut self, number: usize, line: &[u8]) -> Result<(), ReadFault>
         requires { length line.now ≤ 65536 }
-        ensures { line_read result self.new ≡ read_line (stage_shown self.old.stage) number (level_read self.old) (words_of line.now) }
+        ensures told { line_read result self.new ≡ read_line (stage_shown self.old.stage) number (level_read self.old) (words_of line.now) }
+        ensures header { self.new.level.header ≡ self.old.level.header }
     {
         if let Stage::End = self.stage {
             return Err(ReadFault::Line { line: number });
@@ -98,7 +100,8 @@ impl<K: Written> Reader<K> {
     // Reads the lines from the second on. The bound of the text is a fact of the slice, and so of each line that is cut off.
     pub(crate) fn read_rest(&mut self, text: &[u8]) -> Result<(), ReadFault>
         requires { length text.now ≤ 65536 }
-        ensures { rest_told K.kind K.listed K.bounds result self.new.level ≡ read_lines (gives (shown_progress self.old)) 2 (pieces_of text.now) }
+        ensures told { rest_told K.kind K.listed K.bounds result self.new.level ≡ read_lines (gives (shown_progress self.old)) 2 (pieces_of text.now) }
+        ensures header { self.new.level.header ≡ self.old.level.header }
     {
         let mut rest = text;
         let mut number = 2;

@@ -8,7 +8,7 @@ ghost use Rattle.play.specs.Faults.{figures_told, fault_line};
 use index::refusal::Refusal;
 use lines::fault::ReadFault;
 use player::calls::OutputFull;
-use printing::Output;
+use printing::put_line;
 
 #[derive(Clone, Copy, Debug, PartialEq)]
 pub enum PlayFault {
@@ -70,5 +70,5 @@ pub fn put_fault(fault: &PlayFault, out: &mut [u8]) -> Option<usize>
     ensures leaves { out.new ≡ put_leaves out.old 0 (fault_line fault.now) }
 {
     let (number, first, second) = fault.figures();
-    Output::new(out).put_line(b"fault", &[number, first, second])
+    put_line(out, 0, b"fault", &[number, first, second])
 }

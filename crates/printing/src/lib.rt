@@ -6,7 +6,7 @@ ghost use Rattle.printing.specs.Outputs.{written, word_line, put_outcome, put_le
 
 use itoa::Buffer;
 
-// Lent bytes, and how many of them are written.
+/// Lent bytes, and how many of them are written.
 #[derive(Drop)]
 pub struct Output<'a> {
     bytes: &'a mut [u8],
@@ -39,13 +39,23 @@ fn line_len(word: &[u8], numbers: &[usize]) -> usize
 }
 
 impl<'a> Output<'a> {
-    // Nothing is written yet.
+    /// Nothing is written yet.
     pub fn new(bytes: &'a mut [u8]) -> Output<'a>
         ensures same_reference { result.bytes.ghost_name ≡ bytes.entry.ghost_name }
         ensures bytes { result.bytes.now ≡ bytes.old }
         ensures len { result.len ≡ 0 }
     {
         Output { bytes, len: 0 }
+    }
+
+    /// The first `len` bytes, whatever they are, count as written: the next line begins at `len`, which may be any
+    /// number. Beyond the bytes no line fits.
+    pub fn after(bytes: &'a mut [u8], len: usize) -> Output<'a>
+        ensures same_reference { result.bytes.ghost_name ≡ bytes.entry.ghost_name }
+        ensures bytes { result.bytes.now ≡ bytes.old }
+        ensures len { result.len ≡ len }
+    {
+        Output { bytes, len }
     }
 
     // Writes bytes that have room.
@@ -75,8 +85,8 @@ impl<'a> Output<'a> {
         self.put(digits.format(n).as_bytes());
     }
 
-    // Writes a word and numbers, parted by spaces, as one line, and returns where it ends. A line that does not
-    // fit is not begun.
+    /// Writes a word and numbers, parted by spaces, as one line, and returns where it ends. A line that does not
+    /// fit is not begun.
     pub fn put_line(&mut self, word: &[u8], numbers: &[usize]) -> Option<usize>
         requires { (length word.now ≤ 128) × (length numbers.now ≤ 128) }
         ensures same_reference { self.new.bytes.ghost_name ≡ self.old.bytes.ghost_name }
@@ -94,4 +104,14 @@ impl<'a> Output<'a> {
         self.put(b"\n");
         Some(self.len)
     }
+}
+
+/// Writes a word of at most 128 bytes and at most 128 numbers, parted by spaces, as one line from `at` on, and returns
+/// where it ends. All else stays as it was. A line that does not fit is not begun, and beyond the bytes none fits.
+pub fn put_line(out: &mut [u8], at: usize, word: &[u8], numbers: &[usize]) -> Option<usize>
+    requires { (length word.now ≤ 128) × (length numbers.now ≤ 128) }
+    ensures answer { result ≡ put_outcome (length out.old) at (word_line word.now numbers.now) }
+    ensures leaves { out.new ≡ put_leaves out.old at (word_line word.now numbers.now) }
+{
+    Output::after(out, at).put_line(word, numbers)
 }

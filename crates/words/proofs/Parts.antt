@@ -1,5 +1,5 @@
 -- Taking words by tokens, and a whole line in parts. Assumes nothing.
-use Rattle.std.proofs.Common.{◌≡◌, ℕ, ◌+◌, true, false, cond, List, [], ◌∷◌, ◌++◌, Some, None, Err, Option, Bor, sym, refl, ap, ◌∙◌}
+use Rattle.std.proofs.Common.{◌≡◌, ℕ, ◌+◌, ◌<◌, true, false, cond, List, [], ◌∷◌, ◌++◌, length, Some, None, Err, Option, Bor, sym, refl, ap, ◌∙◌, arith}
 use Rattle.level_theory.specs.Words.{letter, digit, all_bytes, same_bytes, number_word, Want, the_word, a_number, Taken, right, wrong, with_number, take_words}
 use Rattle.std.specs.Option.{ok_or}
 use Rattle.words.specs.declared.cursor.Misplaced.{Misplaced}
@@ -41,6 +41,26 @@ word_number limit (b ∷ bs) i ws = elim (all_bytes letter (b ∷ bs)) as (λ t.
 pub by_token : (limit : ℕ) (ws : List (List ℕ)) (i : ℕ) → part (a_number limit ∷ []) ws i ≡ from_token limit (first_word ws i) (words_after ws) (place_after ws i)
 by_token limit [] i = refl
 by_token limit (w ∷ ws) i = single (number_word limit w) i ws ∙ word_number limit w i ws
+
+-- what a token of digits holds
+abbrev pub DigitsWord : Word → Type 0
+DigitsWord (letters w p) = Unit {0}
+DigitsWord (digits w p) = (0 < length w) × (all_bytes digit w ≡ true)
+DigitsWord (amiss p) = Unit {0}
+
+pub word_digits : (w : List ℕ) (i : ℕ) → DigitsWord (word_of w i)
+word_digits [] i = tt
+word_digits (b ∷ bs) i = elim (all_bytes letter (b ∷ bs)) as (λ t. DigitsWord (cond t (letters (b ∷ bs) i) (cond (all_bytes digit (b ∷ bs)) (digits (b ∷ bs) i) (amiss i)))) [
+  | true ↦ tt
+  | false ↦ elim (all_bytes digit (b ∷ bs)) as (λ t. all_bytes digit (b ∷ bs) ≡ t → DigitsWord (cond t (digits (b ∷ bs) i) (amiss i))) [
+    | true ↦ λ d. (omega arith, d)
+    | false ↦ λ d. tt
+  ] refl
+]
+
+pub first_digits : (ws : List (List ℕ)) (i : ℕ) → DigitsWord (first_word ws i)
+first_digits [] i = tt
+first_digits (w ∷ ws) i = word_digits w i
 
 -- a whole line
 abbrev pub whole : Part → Taken

@@ -22,15 +22,15 @@ returns-in_err-kind c =
 pub returns-in_err-read_rest-in-Arms : goal.returns-in_err-read_rest-in-Arms
 returns-in_err-read_rest-in-Arms c =
     let p = err_from_is_err_and c.from_residual-in_err-read_rest-in-Arms.result c.from_residual-in_err-read_rest-in-Arms.ensures.1 in
-    rw (p.1, p.2) (c.in_err-read_rest-in-Arms.ensures ∙ header_goes c.args.bytes.now c.if-bytes-gt65536.false c.in-Some.line.now c.in-Some.rest.now c.in-Some.ensures.0 (header_level (kind_shown c.in_ok-kind.kind) (header_numbers c.in_ok-kind.header)) (stage_shown c.start-reader.result.stage) (level_read c.start-reader.result) c.in_ok-kind.ensures (ap stage_shown c.start-reader.ensures.stage) (c.start-reader.ensures.level ∙ ap (λ k. header_level (kind_shown k) (header_numbers c.in_ok-kind.header)) (sym c.in-Arms.is)))
+    rw (p.1, p.2) (c.in_err-read_rest-in-Arms.ensures.told ∙ header_goes c.args.bytes.now c.if-bytes-gt65536.false c.in-Some.line.now c.in-Some.rest.now c.in-Some.ensures.0 (header_level (kind_shown c.in_ok-kind.kind) (header_numbers c.in_ok-kind.header)) (stage_shown c.start-reader.result.stage) (level_read c.start-reader.result) c.in_ok-kind.ensures (ap stage_shown c.start-reader.ensures.stage) (c.start-reader.ensures.level ∙ ap (λ k. header_level (kind_shown k) (header_numbers c.in_ok-kind.header)) (sym c.in-Arms.is)))
 
 pub returns-in_ok-read_rest-in-Arms : goal.returns-in_ok-read_rest-in-Arms
-returns-in_ok-read_rest-in-Arms c = c.in_ok-read_rest-in-Arms.ensures ∙ header_goes c.args.bytes.now c.if-bytes-gt65536.false c.in-Some.line.now c.in-Some.rest.now c.in-Some.ensures.0 (header_level (kind_shown c.in_ok-kind.kind) (header_numbers c.in_ok-kind.header)) (stage_shown c.start-reader.result.stage) (level_read c.start-reader.result) c.in_ok-kind.ensures (ap stage_shown c.start-reader.ensures.stage) (c.start-reader.ensures.level ∙ ap (λ k. header_level (kind_shown k) (header_numbers c.in_ok-kind.header)) (sym c.in-Arms.is))
+returns-in_ok-read_rest-in-Arms c = c.in_ok-read_rest-in-Arms.ensures.told ∙ header_goes c.args.bytes.now c.if-bytes-gt65536.false c.in-Some.line.now c.in-Some.rest.now c.in-Some.ensures.0 (header_level (kind_shown c.in_ok-kind.kind) (header_numbers c.in_ok-kind.header)) (stage_shown c.start-reader.result.stage) (level_read c.start-reader.result) c.in_ok-kind.ensures (ap stage_shown c.start-reader.ensures.stage) (c.start-reader.ensures.level ∙ ap (λ k. header_level (kind_shown k) (header_numbers c.in_ok-kind.header)) (sym c.in-Arms.is))
 
 pub returns-in_err-read_rest-in-Cards : goal.returns-in_err-read_rest-in-Cards
 returns-in_err-read_rest-in-Cards c =
     let p = err_from_is_err_and c.from_residual-in_err-read_rest-in-Cards.result c.from_residual-in_err-read_rest-in-Cards.ensures.1 in
-    rw (p.1, p.2) (c.in_err-read_rest-in-Cards.ensures ∙ header_goes c.args.bytes.now c.if-bytes-gt65536.false c.in-Some.line.now c.in-Some.rest.now c.in-Some.ensures.0 (header_level (kind_shown c.in_ok-kind.kind) (header_numbers c.in_ok-kind.header)) (stage_shown c.start-reader-in-Cards.result.stage) (level_read c.start-reader-in-Cards.result) c.in_ok-kind.ensures (ap stage_shown c.start-reader-in-Cards.ensures.stage) (c.start-reader-in-Cards.ensures.level ∙ ap (λ k. header_level (kind_shown k) (header_numbers c.in_ok-kind.header)) (sym c.in-Cards.is)))
+    rw (p.1, p.2) (c.in_err-read_rest-in-Cards.ensures.told ∙ header_goes c.args.bytes.now c.if-bytes-gt65536.false c.in-Some.line.now c.in-Some.rest.now c.in-Some.ensures.0 (header_level (kind_shown c.in_ok-kind.kind) (header_numbers c.in_ok-kind.header)) (stage_shown c.start-reader-in-Cards.result.stage) (level_read c.start-reader-in-Cards.result) c.in_ok-kind.ensures (ap stage_shown c.start-reader-in-Cards.ensures.stage) (c.start-reader-in-Cards.ensures.level ∙ ap (λ k. header_level (kind_shown k) (header_numbers c.in_ok-kind.header)) (sym c.in-Cards.is)))
 
 pub returns-in_ok-read_rest-in-Cards : goal.returns-in_ok-read_rest-in-Cards
-returns-in_ok-read_rest-in-Cards c = c.in_ok-read_rest-in-Cards.ensures ∙ header_goes c.args.bytes.now c.if-bytes-gt65536.false c.in-Some.line.now c.in-Some.rest.now c.in-Some.ensures.0 (header_level (kind_shown c.in_ok-kind.kind) (header_numbers c.in_ok-kind.header)) (stage_shown c.start-reader-in-Cards.result.stage) (level_read c.start-reader-in-Cards.result) c.in_ok-kind.ensures (ap stage_shown c.start-reader-in-Cards.ensures.stage) (c.start-reader-in-Cards.ensures.level ∙ ap (λ k. header_level (kind_shown k) (header_numbers c.in_ok-kind.header)) (sym c.in-Cards.is))
+returns-in_ok-read_rest-in-Cards c = c.in_ok-read_rest-in-Cards.ensures.told ∙ header_goes c.args.bytes.now c.if-bytes-gt65536.false c.in-Some.line.now c.in-Some.rest.now c.in-Some.ensures.0 (header_level (kind_shown c.in_ok-kind.kind) (header_numbers c.in_ok-kind.header)) (stage_shown c.start-reader-in-Cards.result.stage) (level_read c.start-reader-in-Cards.result) c.in_ok-kind.ensures (ap stage_shown c.start-reader-in-Cards.ensures.stage) (c.start-reader-in-Cards.ensures.level ∙ ap (λ k. header_level (kind_shown k) (header_numbers c.in_ok-kind.header)) (sym c.in-Cards.is))
