@@ -31,7 +31,8 @@ module _ (w : Wall) (e f : Arm) (n t : ℕ) (low : t ≤ n) where
   not_apart inside = below_none (joint_apart w (swept_box e f)) 6 6 (omega arith)
       (below_every (λ i. not (joint_apart w (swept_box e f) i)) 6 (λ i h. meets_swept i h (below_each (joint_in w (pose_at e f n t)) 6 i inside h)))
 
-  not_in : apart w (swept_box e f) ≡ true → not (in_wall w (pose_at e f n t)) ≡ true
+  -- and a wall that is apart has no pose on the way in it
+  pub not_in : apart w (swept_box e f) ≡ true → not (in_wall w (pose_at e f n t)) ≡ true
   not_in free = turned (in_wall w (pose_at e f n t)) not_apart
     where
       turned : (b : Bool) → (b ≡ true → apart w (swept_box e f) ≡ false) → not b ≡ true

@@ -1,4 +1,5 @@
 pub mod Contained
+pub mod Begins
 pub mod Firsts
 pub mod Parts
 pub mod OfJoints

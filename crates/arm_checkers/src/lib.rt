@@ -1,9 +1,10 @@
-// Two checkers of arms over walls: Step asks each wall when a motion first is in it, Box looks at the
-// arcs that its joints sweep.
+// Two checkers of arms over walls: Box looks at the arcs that a motion's joints sweep, Step asks each
+// wall that comes near them when the motion first is in it.
 #![tactic(auto)]
 
 mod joint;
 mod meeting;
+mod outside;
 mod step;
 mod sweep;
 mod verdicts;

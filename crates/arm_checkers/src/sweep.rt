@@ -27,7 +27,7 @@ fn swept_arc(from: u16, to: u16) -> Arc
 }
 
 // The arcs that all joints sweep.
-fn sweep(a: &Arm, b: &Arm) -> Wall
+pub fn sweep(a: &Arm, b: &Arm) -> Wall
     ensures { result ≡ swept_box a.now b.now }
 {
     Wall {
