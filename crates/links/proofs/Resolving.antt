@@ -1,5 +1,5 @@
 -- Finding records, and writing their edges by place. Assumes nothing.
-use Rattle.std.proofs.Common.{◌≡◌, ℕ, zero, suc, ◌+◌, ◌<◌, ◌≤◌, Bool, true, false, cond, eqb, ◌⊎◌, List, [], ◌∷◌, ◌++◌, map, length, get_or, take, drop, ◌-◌, set, filter, Less, Equal, Greater, Ok, Err, Result, sym, refl, ap, ◌∙◌, subst, inl, inr, arith}
+use Rattle.std.proofs.Common.{◌≡◌, ℕ, zero, suc, ◌+◌, ◌*◌, ◌<◌, ◌≤◌, Bool, true, false, cond, eqb, ◌⊎◌, List, [], ◌∷◌, ◌++◌, map, length, get_or, take, drop, ◌-◌, set, filter, Less, Equal, Greater, Ok, Err, Result, sym, refl, ap, ◌∙◌, subst, inl, inr, arith}
 use Rattle.std.specs.List.{flat_map, AllByRecursion}
 use Rattle.std.specs.List.Sorted.{IsBinarySearchResult}
 use Rattle.std.specs.Ordering.{nat_cmp, is_lt}
@@ -9,6 +9,7 @@ use Rattle.std.proofs.lemmas.List.Sorted.{searchable_from_sorted}
 use Rattle.std.proofs.lemmas.Bool.Decides.{nat_tests}
 use Rattle.std.proofs.lemmas.List.{length-map, get_or-map, take_more_set, drop-set-lt, drop-drop, map_push, append_assoc, append-nil, take_more}
 use Rattle.std.proofs.lemmas.List.Elements.{filter_more}
+use Rattle.std.proofs.lemmas.List.Sums.{sum_by-cons, sum_by_more, sum_by_more_le}
 use Rattle.std.proofs.ByRecursion.{All-push, All-get_or}
 use Rattle.std.proofs.lemmas.Bool.{cases_lt, ne_eqb, eq-eqb, or_from, or_right, or_left}
 use Rattle.hits.specs.declared.Hit.{Hit}
@@ -16,7 +17,7 @@ use Rattle.chains.specs.declared.Edge.{Edge}
 use Rattle.chains.specs.Edges.{edge, renamed, Inside, Rises}
 use Rattle.chains.proofs.Places.{rises_at}
 use Rattle.links.specs.declared.Links.{Links}
-use Rattle.links.specs.Records.{numbers, number_at, elders, Sound, has, edge_to, record_edges, Resolved, OneMore, Found}
+use Rattle.links.specs.Records.{numbers, number_at, held, elders, Sound, has, edge_to, record_edges, Resolved, OneMore, Found}
 
 pub number_is : (links : List Links) (i : ℕ) (d : Links) → i < length links → (get_or links i d).number ≡ number_at links i
 number_is links i d l = sym (get_or-map (λ r. r.number) links i d 0 l)
@@ -86,7 +87,7 @@ module _ (links : List Links) (r : Links) (before : List Edge) (made : ℕ) wher
 
   -- all of its elders
   pub one_more : (at : ℕ) (after : List Edge) (all : ℕ) → ((d : Links) → r ≡ get_or links at d) → r.count ≤ 8 → SoFar links r before made after all r.count → OneMore links at before made after all
-  one_more at after all is c s = record { few = omega (arith, s.few); inside = s.inside; named = λ d. s.named ∙ ap (λ z. map (renamed (number_at links)) (take made before) ++ record_edges (numbers links) z) (is d) }
+  one_more at after all is c s = record { few = omega (arith, s.few); fits = λ d. omega (arith, s.few, ap (λ x. x.count) (is d)); inside = s.inside; named = λ d. s.named ∙ ap (λ z. map (renamed (number_at links)) (take made before) ++ record_edges (numbers links) z) (is d) }
 
 joined_more : {X A : Type 0} (f : X → List A) (xs : List X) (i : ℕ) (d : X) → i < length xs → flat_map f (take (i + 1) xs) ≡ flat_map f (take i xs) ++ f (get_or xs i d)
 joined_more f xs i d l = ap (flat_map f) (take_more xs i d l) ∙ go (take i xs)
@@ -97,11 +98,12 @@ joined_more f xs i d l = ap (flat_map f) (take_more xs i d l) ∙ go (take i xs)
 
 module _ (links : List Links) where
   pub none_resolved : (edges : List Edge) → Resolved links 0 edges 0
-  none_resolved edges = record { few = omega arith; inside = tt; named = refl }
+  none_resolved edges = record { few = omega arith; fits = omega arith; inside = tt; named = refl }
 
   pub one_resolved : (at : ℕ) (before after : List Edge) (made n : ℕ) (d : Links) → at < length links → Resolved links at before made → OneMore links at before made after n → Resolved links (at + 1) after n
   one_resolved at before after made n d l s o = record {
     few = omega (arith, s.few, o.few);
+    fits = omega (arith, s.fits, o.fits d, sum_by_more (λ r. r.count) links at d l);
     inside = o.inside s.inside;
     named = o.named d ∙ (ap (λ z. z ++ record_edges (numbers links) (get_or links at d)) s.named ∙ sym (joined_more (record_edges (numbers links)) links at d l));
   }
@@ -139,6 +141,15 @@ all_resolved links at edges n a b r =
     let P : ℕ → Type 0 = λ k. Resolved links k edges n in
     let e : at ≡ length links = omega arith in
     subst P e r
+
+-- what the records before a place hold, and the one there, is held
+pub held_more : (links : List Links) (at : ℕ) → at < length links → held (take at links) + (get_or links at (record { number = 0; count = 0; elders = [] })).count ≤ held links
+held_more links at l = sum_by_more_le (λ r. r.count) links at (record { number = 0; count = 0; elders = [] }) l
+
+-- no record holds more than eight
+pub held_few : (links : List Links) → AllByRecursion Sound links → held links ≤ 8 * length links
+held_few [] a = omega arith
+held_few (r ∷ rs) a = omega (arith, sum_by-cons (λ r. r.count) r rs, a.0.count_bound, held_few rs a.1)
 
 -- the record at a place is sound
 pub record_sound : (links : List Links) (at : ℕ) → at < length links → AllByRecursion Sound links → Sound (get_or links at (record { number = 0; count = 0; elders = [] }))

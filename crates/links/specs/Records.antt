@@ -1,6 +1,6 @@
 -- The edges that records hold.
 use Rattle.std.specs.Prelude.{◌≡◌, ℕ, ◌+◌, ◌*◌, ◌<◌, ◌≤◌, Bool, false, cond, ◌||◌, List, [], ◌∷◌, ◌++◌, map, length, take, Some, None, filter, Option, ◌==◌, slice_index, slice_index_or}
-use Rattle.std.specs.List.{flat_map, AllByRecursion, AllByRecursion-prop}
+use Rattle.std.specs.List.{flat_map, sum_by, AllByRecursion, AllByRecursion-prop}
 use Rattle.std.specs.Coded.{×_prop, Unit-prop, le_prop, Coded-set, coded_ℕ}
 use Rattle.hits.specs.declared.Hit.{Hit}
 use Rattle.chains.specs.declared.Edge.{Edge}
@@ -17,6 +17,10 @@ number_at links i = slice_index (numbers links) i
 -- the elders that a record holds
 abbrev pub elders : Links → List Hit
 elders r = take r.count r.elders
+
+-- how many elders these records hold together
+abbrev pub held : List Links → ℕ
+held links = sum_by (λ r. r.count) links
 
 -- at most eight elders, each of a smaller number and no farther than any distance can be
 pub record Sound (r : Links) : Type 0 where
@@ -71,12 +75,14 @@ edges_of links = edges_among (numbers links) links
 -- the first n of these edges, by place, are those of the first `upto` records
 pub record Resolved (links : List Links) (upto : ℕ) (edges : List Edge) (n : ℕ) : Type 0 where
   pub few : n ≤ 8 * upto
+  pub fits : n ≤ held (take upto links)
   pub inside : AllByRecursion (Inside (length links)) (take n edges)
   pub named : map (renamed (number_at links)) (take n edges) ≡ edges_among (numbers links) (take upto links)
 
 -- one more record's edges behind those that were
 pub record OneMore (links : List Links) (at : ℕ) (before : List Edge) (made : ℕ) (after : List Edge) (n : ℕ) : Type 0 where
   pub few : n ≤ made + 8
+  pub fits : (d : Links) → n ≤ made + (slice_index_or links at d).count
   pub inside : AllByRecursion (Inside (length links)) (take made before) → AllByRecursion (Inside (length links)) (take n after)
   pub named : (d : Links) → map (renamed (number_at links)) (take n after) ≡ map (renamed (number_at links)) (take made before) ++ record_edges (numbers links) (slice_index_or links at d)
 

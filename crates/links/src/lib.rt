@@ -1,10 +1,10 @@
 // The edge records of a roadmap: one for each standing sample, by rising number.
 #![tactic(auto)]
 
-ghost use Rattle.std.specs.Prelude.{◌≡◌, ◌*◌, ◌<◌, ◌≤◌, map, length, drop, replicate};
+ghost use Rattle.std.specs.Prelude.{◌≡◌, ◌*◌, ◌<◌, ◌≤◌, map, length, take, drop, replicate};
 ghost use Rattle.std.specs.List.{AllByRecursion};
 ghost use Rattle.chains.specs.Edges.{Rises};
-ghost use Rattle.links.specs.Records.{numbers, number_at, Good, Good-prop, Resolved, OneMore, Found};
+ghost use Rattle.links.specs.Records.{numbers, number_at, held, Good, Good-prop, Resolved, OneMore, Found};
 
 use chains::Edge;
 use hits::Hit;
@@ -12,7 +12,7 @@ use hits::Hit;
 // The elders that a sample has edges to, each with its distance: the first `count` of them count. An edge
 // counts only while both its ends stand. A plain record with its elders by value, since it is copied out of
 // a row, changed and written back.
-#[derive(Clone, Copy)]
+#[derive(Clone, Copy, Debug, PartialEq)]
 pub struct Links {
     pub number: u16,
     pub count: u8,
@@ -78,8 +78,8 @@ impl<'a> Records<'a> {
 
     // Writes the standing edges of one record behind the first `made`, by place. How many there are then.
     fn resolve_one(&self, at: usize, edges: &mut [Edge], made: usize) -> usize
-        requires inside { (at < length self.now.all.now) × (made ≤ 8 * at) }
-        requires room { 8 * length self.now.all.now ≤ length edges.old }
+        requires inside { (at < length self.now.all.now) × (made ≤ held (take at self.now.all.now)) }
+        requires room { held self.now.all.now ≤ length edges.old }
         ensures low { made ≤ result }
         ensures made { OneMore self.now.all.now at edges.old made edges.new result }
         ensures rest { drop result edges.new ≡ drop result edges.old }
@@ -100,9 +100,22 @@ impl<'a> Records<'a> {
         all
     }
 
+    // How many elders the records hold together: at least as many as there are standing edges.
+    pub fn held(&self) -> usize
+        ensures held { result ≡ held self.now.all.now }
+        ensures few { result ≤ 8 * length self.now.all.now }
+    {
+        let mut all = 0;
+        for record in self.all {
+            all += record.count as usize;
+        }
+        all
+    }
+
     // Writes the standing edges of all records, by place. How many they are.
     pub fn resolve(&self, edges: &mut [Edge]) -> usize
-        requires { 8 * length self.now.all.now ≤ length edges.old }
+        requires { held self.now.all.now ≤ length edges.old }
+        ensures few { result ≤ held self.now.all.now }
         ensures resolved { Resolved self.now.all.now (length self.now.all.now) edges.new result }
         ensures rest { drop result edges.new ≡ drop result edges.old }
     {

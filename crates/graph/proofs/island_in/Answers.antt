@@ -1,14 +1,22 @@
 use Rattle.std.proofs.Common.{ℕ, ◌<◌, [], length, take, subst, sym, arith}
+use Rattle.std.proofs.lemmas.List.{length-replicate}
+use Rattle.chains.specs.declared.Edge.{Edge}
 use Rattle.chains.specs.Chains.{Island}
 use Rattle.chains.specs.Edges.{Linked}
 use Rattle.links.specs.Records.{number_at, edges_of}
-use Rattle.links.proofs.Resolving.{number_is}
+use Rattle.links.proofs.Resolving.{number_is, held_few}
 use Rattle.graph.specs.Routes.{Standing}
 use Rattle.graph.proofs.Surveying.{island_named, island_inside, front_long}
 use Rattle.graph.proofs.island_in.Goals as goal
 
 abbrev zero' : ℕ
 zero' = 0
+
+no_edge : Edge
+no_edge = record { elder = 0; younger = 0; length = 0 }
+
+pub resolve-made-requires : goal.resolve-made-requires
+resolve-made-requires g c = omega (arith, length-replicate g.row.EDGES no_edge, held_few c.args.records.now.all.now c.args.records.now.good.sound, c.requires.edges.0)
 
 pub bounds-records-place : goal.bounds-records-place
 bounds-records-place g c =

@@ -15,7 +15,7 @@ loop-at-preserved c =
 pub resolve_one-made-requires : goal.resolve_one-made-requires
 resolve_one-made-requires c =
     let k = c.loop-at.auto.edges in
-    record { inside = (c.loop-at-test.true, c.loop-at.invariant.0.few); room = omega (arith, c.requires) }
+    record { inside = (c.loop-at-test.true, c.loop-at.invariant.0.fits); room = omega (arith, c.requires) }
 
 pub returns-clause-resolved : goal.returns-clause-resolved
 returns-clause-resolved c = all_resolved c.args.self.now.all.now c.loop-at.at c.loop-at.edges c.loop-at.made c.loop-at-test.false c.loop-at.auto.at-end c.loop-at.invariant.0
