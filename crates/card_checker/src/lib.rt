@@ -9,7 +9,7 @@ use card::Card;
 use checker::Checker;
 
 // What the wall asks for in each slot. 255 stands for every value: a wall is written so, as eight bytes.
-#[derive(Clone, Copy, Default)]
+#[derive(Clone, Copy, Debug, Default, PartialEq)]
 pub struct CardWall {
     pub slots: [u8; 8],
 }

@@ -2,7 +2,7 @@
 #![tactic(auto)]
 
 // An edge joins a sample to an elder one and is as long as their distance.
-#[derive(Clone, Copy)]
+#[derive(Clone, Copy, Debug, PartialEq)]
 pub struct Edge {
     pub elder: u16,
     pub younger: u16,

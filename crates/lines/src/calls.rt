@@ -12,7 +12,7 @@ use words::{Misplaced, Token, Words};
 use written::Written;
 
 // A call, as a line gives it.
-#[derive(Clone, Copy)]
+#[derive(Clone, Copy, Debug, PartialEq)]
 pub enum CallLine<E> {
     Add(E),
     Drop(u16),

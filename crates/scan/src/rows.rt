@@ -10,7 +10,7 @@ use hits::{Hit, place};
 use metric::Metric;
 
 // A place for one sample.
-#[derive(Clone, Copy)]
+#[derive(Clone, Copy, Debug, PartialEq)]
 pub struct Row<E> {
     pub number: u16,
     pub element: E,

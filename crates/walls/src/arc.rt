@@ -4,7 +4,7 @@ ghost use Rattle.turning.specs.Circle.{ahead};
 ghost use Rattle.walls.specs.Arcs.{in_arc, meet};
 
 // All angles from `start` up to `extent` farther on. Both are read as remainders by 4,096.
-#[derive(Clone, Copy, Default)]
+#[derive(Clone, Copy, Debug, Default, PartialEq)]
 pub struct Arc {
     pub start: u16,
     pub extent: u16,

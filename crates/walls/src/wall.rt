@@ -5,7 +5,7 @@ ghost use Rattle.walls.specs.Walls.{in_wall, apart};
 use crate::arc::Arc;
 use arm::Arm;
 
-#[derive(Clone, Copy, Default)]
+#[derive(Clone, Copy, Debug, Default, PartialEq)]
 pub struct Wall {
     pub arcs: [Arc; 6],
 }

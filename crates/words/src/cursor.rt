@@ -4,7 +4,7 @@ ghost use Rattle.words.specs.Rests.{room};
 
 // The words that are left of a line of at most 65,536 bytes: `rest` holds them, if there are any,
 // and the first of them stands at `place`, counted from 1.
-#[derive(Clone, Copy)]
+#[derive(Clone, Copy, Debug)]
 pub struct Words<'a> {
     pub(crate) rest: Option<&'a [u8]>,
     pub(crate) place: usize,
@@ -12,5 +12,5 @@ pub struct Words<'a> {
 }
 
 // The place of the first wrong, missing or surplus word.
-#[derive(Clone, Copy)]
+#[derive(Clone, Copy, Debug, PartialEq)]
 pub struct Misplaced(pub usize);

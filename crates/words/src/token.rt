@@ -4,7 +4,7 @@ ghost use Rattle.words.specs.Tokens.{shown, word_of, place_of, letters_of, digit
 
 // The letters or digits are the line's own bytes, with the word's place from 1. An empty word, or
 // one of other bytes, is wrong, and so is one that is missing.
-#[derive(Clone, Copy)]
+#[derive(Clone, Copy, Debug)]
 pub enum Token<'a> {
     Letters(&'a [u8], usize),
     Digits(&'a [u8], usize),

@@ -60,4 +60,13 @@ impl Written for Arm {
         let numbers = take_numbers::<12>(words, Self::LARGEST)?;
         Ok(arcs(numbers))
     }
+
+    fn blank_wall() -> Wall {
+        Wall {
+            arcs: [Arc {
+                start: 0,
+                extent: 0,
+            }; 6],
+        }
+    }
 }

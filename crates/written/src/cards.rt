@@ -60,4 +60,8 @@ impl Written for Card {
             slots: bytes(numbers),
         })
     }
+
+    fn blank_wall() -> CardWall {
+        CardWall { slots: [0; 8] }
+    }
 }

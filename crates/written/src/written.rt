@@ -1,5 +1,5 @@
 // A kind of element that can be read from a line.
-ghost use Rattle.std.specs.Prelude.{◌≡◌, ℕ, List};
+ghost use Rattle.std.specs.Prelude.{◌≡◌, ℕ, List, replicate};
 ghost use Rattle.level_theory.specs.Levels.{Kind, form_of};
 ghost use Rattle.level_theory.specs.Reading.{element_wants};
 ghost use Rattle.words.specs.Cursors.{words_left, part, shown_part};
@@ -56,6 +56,10 @@ pub trait Written: Metric {
     // Takes the words of a wall.
     fn wall_from_words(words: &mut Words) -> Result<Self::Wall, Misplaced>
         ensures { shown_part bounds result words.new ≡ part (wall_wants (form_of kind)) (words_left words.old) words.old.place };
+
+    // A wall to fill a place with until one is read: all its numbers are 0.
+    fn blank_wall() -> Self::Wall
+        ensures { bounds result ≡ replicate (form_of kind).wall_numbers 0 };
 
     // The laws of the two constants.
     ghost counted: { COUNT ≡ (form_of kind).numbers };
