@@ -37,6 +37,7 @@ impl<K: Written> Reader<K> {
     where
         K::Wall: Default,
         ensures level { level_read result ≡ header_level K.kind (header_numbers header) }
+        ensures header { result.level.header ≡ header }
         ensures stage { result.stage ≡ WallCount }
     {
         Reader {

@@ -57,7 +57,8 @@ pub trait Written: Metric {
     fn wall_from_words(words: &mut Words) -> Result<Self::Wall, Misplaced>
         ensures { shown_part bounds result words.new ≡ part (wall_wants (form_of kind)) (words_left words.old) words.old.place };
 
-    // A wall to fill a place with until one is read: all its numbers are 0.
+    // A wall to fill a place with that has none yet: all its numbers are 0. `Default` makes one too, and promises nothing of a
+    // wall's numbers.
     fn blank_wall() -> Self::Wall
         ensures { bounds result ≡ replicate (form_of kind).wall_numbers 0 };
 
