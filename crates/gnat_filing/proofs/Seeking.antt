@@ -1,5 +1,5 @@
 -- The way down to the node that holds a sample: to drop it there is to drop it from the root. Assumes nothing.
-use Rattle.std.proofs.Common.{◌≡◌, ℕ, Bool, cond, List, [], ◌∷◌, get_or, Some, sym, subst}
+use Rattle.std.proofs.Common.{◌≡◌, ℕ, suc, ◌+◌, ◌≤◌, Bool, cond, List, [], ◌∷◌, get_or, Some, sym, ap, ◌∙◌, subst, arith}
 use Rattle.std.specs.List.{slice_get}
 use Rattle.hits.specs.Samples.{Among}
 use Rattle.gnat_theory.specs.Tree.{Tree}
@@ -10,10 +10,13 @@ use Rattle.gnat_rows.specs.declared.Node.{Node}
 use Rattle.gnat_rows.specs.declared.Node.TheVariants as node
 use Rattle.gnat_rows.specs.declared.Row.{Row}
 use Rattle.gnat_rows.specs.Rows.{with_node}
+use Rattle.gnat_rows.specs.Shows.{Shows}
+use Rattle.gnat_rows.specs.Trees.{height}
 use Rattle.gnat_rows.proofs.Changes.{same_row}
+use Rattle.gnat_rows.proofs.Trees.{shown_tree}
 use Rattle.gnat_rows.proofs.Showing.{Child}
 use Rattle.gnat_filing.specs.Dropping.{Droppable, Drops}
-use Rattle.gnat_filing.specs.Seeking.{LiesUnder, IsFollowed, Sought, Seeks}
+use Rattle.gnat_filing.specs.Seeking.{LiesUnder, IsFollowed, Sought, Seeks, ShowsBelow, NoHigher}
 use Rattle.gnat_filing.proofs.Level.{child_lower, pivot_apart}
 use Rattle.gnat_filing.proofs.Under.{put_after, as_it_was}
 use Rattle.gnat_filing.proofs.Shrinking.{lies_absent, IsDropBranch, child_droppable, dropped_below}
@@ -51,6 +54,25 @@ module _ {E : Type 0} (dist : E → E → ℕ) (rows : List (Row E)) (root at : 
         ready = v.ready;
         left = λ later freed given. u.left later freed (as_it_was (λ ls. Shuffle ℕ (cond freed (at ∷ ls) ls) u.lies) rows later pivot (shrunk own.number u.tree) u.lies row there u.ready.apart (v.left later freed given));
       }
+
+-- how high the trees below two pivots are
+module _ {E : Type 0} (rows : List (Row E)) where
+  -- rows show one tree from a node on
+  one_tree : (n : Node) (t u : Tree E) (fs gs : List ℕ) → Shows rows n t fs → Shows rows n u gs → t ≡ u
+  one_tree n t u fs gs a b =
+      let most = suc (height t + height u) in
+      sym (shown_tree rows t most n fs a (omega arith)) ∙ shown_tree rows u most n gs b (omega arith)
+
+  one_below : (pivot : ℕ) (t u : Tree E) (fs gs : List ℕ) → ShowsBelow rows pivot t fs → ShowsBelow rows pivot u gs → t ≡ u
+  one_below pivot t u fs gs a b = one_tree b.0.node t u fs gs (subst (λ r. Shows rows r.node t fs) (same_row rows pivot a.0 b.0 a.1 b.1) a.2) b.2
+
+  pub itself_no_higher : (pivot : ℕ) → NoHigher rows pivot pivot
+  itself_no_higher pivot t u fs gs a b = omega (arith, ap height (one_below pivot t u fs gs a b))
+
+  -- one branch further
+  pub next_no_higher : (root pivot next : ℕ) → NoHigher rows root pivot → (v w : Tree E) (ls ms : List ℕ) → ShowsBelow rows pivot v ls → ShowsBelow rows next w ms → height w ≤ height v → NoHigher rows root next
+  next_no_higher root pivot next so_far v w ls ms here there lower t u fs gs a b =
+      omega (arith, so_far t v fs ls a here, lower, ap height (one_below next w u ms gs there b))
 
 -- the node that holds the sample is dropped from, and put back
 pub dropped_there : {E : Type 0} (dist : E → E → ℕ) (degree : ℕ) (rows rows₁ rows₂ : List (Row E)) (n kid : Node) (root pivot at : ℕ) (t : Tree E) (fs : List ℕ) (own : Row E) (freed : Bool) (u : LiesUnder dist degree rows n root at t fs own) (v : Sought dist degree rows root pivot at u.tree u.lies own)

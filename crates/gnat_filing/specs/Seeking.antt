@@ -8,6 +8,7 @@ use Rattle.gnat_rows.specs.declared.Node.{Node}
 use Rattle.gnat_rows.specs.declared.Node.TheVariants as node
 use Rattle.gnat_rows.specs.declared.Row.{Row}
 use Rattle.gnat_rows.specs.Rows.{HasRow}
+use Rattle.gnat_rows.specs.Shows.{Shows}
 use Rattle.gnat_rows.specs.Lying.{Absent}
 use Rattle.gnat_rows.specs.Trees.{height}
 use Rattle.gnat_filing.specs.Dropping.{IsPivot, Droppable, Drops}
@@ -56,6 +57,15 @@ module _ {E : Type 0} (dist : E → E → ℕ) where
 
   abbrev pub Seeks : List (Row E) → ℕ → ℕ → ℕ → Type 0
   Seeks rows pivot pivot' at = (degree : ℕ) (t : Tree E) (fs : List ℕ) (own : Row E) → DroppableUnder degree rows pivot at t fs own → Sought degree rows pivot pivot' at t fs own
+
+module _ {E : Type 0} where
+  -- the node in a pivot's row shows the tree t, in the rows fs
+  abbrev pub ShowsBelow : List (Row E) → ℕ → Tree E → List ℕ → Type 0
+  ShowsBelow rows pivot t fs = HasRow rows pivot (λ r. Shows rows r.node t fs)
+
+  -- of two pivots' rows: the tree below the second is no higher than the one below the first
+  abbrev pub NoHigher : List (Row E) → ℕ → ℕ → Type 0
+  NoHigher rows pivot pivot' = (t u : Tree E) (fs gs : List ℕ) → ShowsBelow rows pivot t fs → ShowsBelow rows pivot' u gs → height u ≤ height t
 
 -- the node in the row holds the sample
 abbrev pub HoldsIn : {E : Type 0} → List (Row E) → ℕ → ℕ → Type 0

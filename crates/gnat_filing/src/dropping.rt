@@ -1,7 +1,7 @@
 // Dropping a sample from below a node.
 ghost use Rattle.std.specs.Prelude.{◌≤◌};
 ghost use Rattle.gnat_filing.specs.Dropping.{Shortened, IsPivot, SomeDroppable, DropsFrom};
-ghost use Rattle.gnat_filing.specs.Seeking.{Holds, HoldsIn, IsFollowed, SomeDroppableUnder, Seeks};
+ghost use Rattle.gnat_filing.specs.Seeking.{Holds, HoldsIn, IsFollowed, SomeDroppableUnder, Seeks, NoHigher};
 
 use crate::splitting::pushed;
 use crate::widening::{closest, measured};
@@ -86,6 +86,7 @@ fn holder<E: Metric>(rows: &[Row<E>], root: u16, at: u16) -> u16
     requires { SomeDroppableUnder E.dist rows.now root at }
     ensures holds { HoldsIn rows.now result at }
     ensures seeks { Seeks E.dist rows.now root result at }
+    ensures no_higher { NoHigher rows.now root result }
 {
     let mut pivot = root;
     while let Some(next) = followed(rows, &rows[pivot as usize].node, at) {
